@@ -1,0 +1,10 @@
+pub mod Rings
+pub mod RingLaws
+pub mod ModuleLaws
+pub mod Quotients
+pub mod FormalSums
+pub mod FormalSumLaws
+pub mod FreeModules
+pub mod Fields
+pub mod Names
+pub mod Binomials

@@ -1,0 +1,14 @@
+//! Fields, monomials, term orders and spaces, and the algebra that every contract speaks.
+#![tactic(auto)]
+
+mod field;
+mod limits;
+mod memory;
+mod name;
+mod place;
+
+pub use field::Field;
+pub use limits::Limits;
+pub use memory::Memory;
+pub use name::Name;
+pub use place::Place;
