@@ -5,13 +5,12 @@
 --   single R same t        the vector that is 1 at the key t and 0 elsewhere
 --   coef R same v t        the coefficient of v at the key t
 --   extend R same X f      the linear function with the value f t at each single t
-use Rattle.std.specs.Prelude.{◌≡◌, List, [], ◌∷◌, ◌++◌}
+use Rattle.std.specs.Prelude.{◌≡◌, [], ◌∷◌, ◌++◌}
 use mathlib.Core.Path.{sym, ap, ap₂, ◌∙◌, refl, subst}
 use mathlib.Core.HLevel.{Π_prop}
 use mathlib.Core.Quot.{mk as class_of, sound, Quot-set}
 use Rattle.alg_core.specs.Quotients.{quotient_lift, quotient_lift₂, quotient_ind, quotient_ind₂, quotient_ind₃}
 use Rattle.alg_core.specs.Rings.{Ring, Module, Linear}
-use Rattle.alg_core.specs.RingLaws as rings
 use Rattle.alg_core.specs.ModuleLaws as modules
 use Rattle.alg_core.specs.FormalSums.{FormalSum, combined, regular, coefficient, indicator, Free}
 use Rattle.alg_core.specs.FormalSumLaws.{combined_append, combined_scaled, scaled, combined_same}

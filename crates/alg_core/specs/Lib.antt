@@ -8,3 +8,9 @@ pub mod FreeModules
 pub mod Fields
 pub mod Names
 pub mod Binomials
+pub mod Monomials
+pub mod Keys
+pub mod Vectors
+pub mod KeyOrders
+pub mod CanonicalLists
+pub mod Leads

@@ -4,7 +4,7 @@
 --   is_name_byte b   an ASCII letter, a digit or an underscore
 --   is_reserved w    a word with a meaning of its own in scripts
 --   is_name w        a letter followed by letters, digits and underscores, and no reserved word
-use Rattle.std.specs.Prelude.{ℕ, Bool, true, false, ◌&&◌, ◌||◌, ◌==◌, nat_le, not, List, [], ◌∷◌, codes}
+use Rattle.std.specs.Prelude.{ℕ, Bool, false, ◌&&◌, ◌||◌, ◌==◌, nat_le, not, List, [], ◌∷◌, codes}
 use Rattle.std.specs.List.{list_all}
 use Rattle.std.specs.Str.{bytes_eq}
 

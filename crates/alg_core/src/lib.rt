@@ -2,12 +2,14 @@
 #![tactic(auto)]
 
 mod field;
+mod laws;
 mod limits;
 mod memory;
 mod name;
 mod place;
 
 pub use field::Field;
+pub use laws::{linear_functions, vector_sums, vector_terms, vectors_are_maps};
 pub use limits::Limits;
 pub use memory::Memory;
 pub use name::Name;

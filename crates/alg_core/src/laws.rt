@@ -1,0 +1,46 @@
+ghost use Rattle.std.specs.Prelude.{◌≡◌, ◌⊎◌};
+ghost use Rattle.alg_core.specs.Rings.{Linear};
+ghost use Rattle.alg_core.specs.Fields.{Scalar, scalars, is_field};
+ghost use Rattle.alg_core.specs.FormalSums.{FormalSum};
+ghost use Rattle.alg_core.specs.FreeModules.{single, class};
+ghost use Rattle.alg_core.specs.Keys.{Key, key_same};
+ghost use Rattle.alg_core.specs.KeyOrders.{OrderOn};
+ghost use Rattle.alg_core.specs.CanonicalLists.{IsCanonical, IsLead, terms};
+ghost use Rattle.alg_core.specs.Vectors.{Vect, vectors, plus, zero_vector, coef_at};
+
+use crate::Field;
+
+/// Sums of vectors commute and associate, and zero changes nothing.
+pub fn vector_sums<F: Field>(_field: &F)
+    ensures comm { let k = F.field _field.now in (x y : Vect k) → plus k x y ≡ plus k y x }
+    ensures assoc { let k = F.field _field.now in (x y z : Vect k) → plus k (plus k x y) z ≡ plus k x (plus k y z) }
+    ensures zero { let k = F.field _field.now in (x : Vect k) → plus k x (zero_vector k) ≡ x }
+{}
+
+/// Two vectors with the same coefficients are equal.
+pub fn vectors_are_maps<F: Field>(_field: &F)
+    ensures same { let k = F.field _field.now in (x y : Vect k) → ((t : Key) → coef_at k x t ≡ coef_at k y t) → x ≡ y }
+{}
+
+/// Two linear functions of vectors that agree on the single keys agree.
+pub fn linear_functions<F: Field>(_field: &F)
+    ensures unique { let k = F.field _field.now in
+        (f g : Vect k → Vect k) → Linear (vectors k) (vectors k) f → Linear (vectors k) (vectors k) g
+        → ((t : Key) → f (single (scalars k) key_same t) ≡ g (single (scalars k) key_same t)) → (x : Vect k) → f x ≡ g x }
+{}
+
+/// By any total order of the keys each vector but zero has exactly one lead, and the terms of a
+/// vector are its one list that falls strictly and has no coefficient zero.
+pub fn vector_terms<F: Field>(_field: &F)
+    ensures lead { let k = F.field _field.now in (o : OrderOn Key) (x : Vect k)
+        → (x ≡ zero_vector k) ⊎ ((t : Key) × IsLead (scalars k) (is_field k) key_same o x t) }
+    ensures one_lead { let k = F.field _field.now in (o : OrderOn Key) (x : Vect k) (s t : Key)
+        → IsLead (scalars k) (is_field k) key_same o x s → IsLead (scalars k) (is_field k) key_same o x t → s ≡ t }
+    ensures canonical { let k = F.field _field.now in (o : OrderOn Key) (x : Vect k)
+        → IsCanonical (scalars k) (is_field k) key_same o (terms (scalars k) (is_field k) key_same o x) }
+    ensures whole { let k = F.field _field.now in (o : OrderOn Key) (x : Vect k)
+        → class (scalars k) key_same (terms (scalars k) (is_field k) key_same o x) ≡ x }
+    ensures only { let k = F.field _field.now in (o : OrderOn Key) (l : FormalSum (Scalar k) Key)
+        → IsCanonical (scalars k) (is_field k) key_same o l
+        → terms (scalars k) (is_field k) key_same o (class (scalars k) key_same l) ≡ l }
+{}
