@@ -1,1 +1,3 @@
 pub mod VectorLaws
+pub mod ExponentSteps
+pub mod OrderSteps

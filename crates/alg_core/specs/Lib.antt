@@ -14,3 +14,8 @@ pub mod Vectors
 pub mod KeyOrders
 pub mod CanonicalLists
 pub mod Leads
+pub mod ExponentLists
+pub mod PlaceOrders
+pub mod DpOrder
+pub mod BlockOrder
+pub mod EliminationOrder

@@ -1,16 +1,33 @@
 //! Fields, monomials, term orders and spaces, and the algebra that every contract speaks.
 #![tactic(auto)]
 
+mod block_order;
+mod dp;
+mod elimination_order;
+mod exponents;
 mod field;
 mod laws;
 mod limits;
 mod memory;
+mod mono;
+mod monomial;
 mod name;
+mod order;
 mod place;
+mod space;
+mod term;
 
+pub use block_order::BlockOrder;
+pub use dp::Dp;
+pub use elimination_order::ElimOrder;
 pub use field::Field;
 pub use laws::{linear_functions, vector_sums, vector_terms, vectors_are_maps};
 pub use limits::Limits;
 pub use memory::Memory;
+pub use mono::Mono;
+pub use monomial::Monomial;
 pub use name::Name;
+pub use order::TermOrder;
 pub use place::Place;
+pub use space::{Grading, Space};
+pub use term::{ModTerm, Term};

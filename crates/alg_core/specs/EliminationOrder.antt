@@ -1,0 +1,50 @@
+-- The elimination order of terms in two blocks of positions.
+--
+--   elimination_compare first ws   a position below first is greater than one from first on; in a block dp, then the earlier position
+--   elimination_order first ws     this order, for as many exponents as there are weights
+use Rattle.std.specs.Prelude.{◌≡◌, ◌≢◌, ℕ, zero, suc, ◌+◌, ◌*◌, ◌<◌, ◌≤◌, ◌==◌, Bool, true, false, cond, nat_lt, List, [], ◌∷◌, ◌++◌, length, take, drop, replicate}
+use Rattle.std.specs.declared.cmp.Ordering.{Ordering}
+use Rattle.std.specs.declared.cmp.Ordering.TheVariants.{Less, Equal, Greater}
+use Rattle.std.specs.Ordering.{nat_cmp, on, flip_args, then_cmp, ordering_then}
+use Rattle.std.specs.Cmp.{IsTotalOrder}
+use Rattle.std.proofs.Common.{sym, ap, ap₂, ◌∙◌, refl, subst, arith}
+use Rattle.std.proofs.lemmas.Cmp.{on_total, then_total, nat_cmp_total, tied_itself}
+use Rattle.std.proofs.lemmas.Bool.Decides.{nat_tests}
+use Rattle.alg_core.specs.ExponentLists.{product}
+use Rattle.alg_core.specs.Keys.{Place}
+use Rattle.alg_core.specs.PlaceOrders.{PlaceOrder, times_place}
+use Rattle.alg_core.specs.DpOrder.{weighted_degree, reverse_lexicographic, all_positive, dp_compare, dp_total, dp_tied, dp_kept, dp_no_smaller, length_from_test}
+
+then_tied : (o p : Ordering) → ordering_then o p ≡ Equal → (o ≡ Equal) × (p ≡ Equal)
+then_tied Less p h = cc
+then_tied Equal p h = (refl, h)
+then_tied Greater p h = cc
+
+-- the positions of the first block are greater; then dp of the monomials, then the earlier position
+abbrev pub elimination_compare : ℕ → List ℕ → Place → Place → Ordering
+elimination_compare first ws = then_cmp (on (λ a. cond (nat_lt a.0 first) 1 0) nat_cmp) (dp_compare ws)
+
+pub elimination_total : (first : ℕ) (ws : List ℕ) → IsTotalOrder (elimination_compare first ws)
+elimination_total first ws = then_total (on_total (λ a. cond (nat_lt a.0 first) 1 0) nat_cmp_total) (dp_total ws)
+
+pub elimination_tied : (first : ℕ) (ws : List ℕ) (a b : Place) → elimination_compare first ws a b ≡ Equal → a ≡ b
+elimination_tied first ws a b e = dp_tied ws a b (then_tied _ _ e).1
+
+pub elimination_kept : (first : ℕ) (ws m : List ℕ) (a b : Place) → length m ≡ length a.1 → length m ≡ length b.1 → elimination_compare first ws (times_place m a) (times_place m b) ≡ elimination_compare first ws a b
+elimination_kept first ws m a b p q = ap (ordering_then (nat_cmp (cond (nat_lt a.0 first) 1 0) (cond (nat_lt b.0 first) 1 0))) (dp_kept ws m a b p q)
+
+pub elimination_no_smaller : (first : ℕ) (ws m : List ℕ) (p : Place) → all_positive ws ≡ true → length p.1 ≡ length ws → length m ≡ length p.1 → elimination_compare first ws (times_place m p) p ≢ Less
+elimination_no_smaller first ws m p positive long same less =
+    dp_no_smaller ws m p positive long same (sym (ap (λ o. ordering_then o (dp_compare ws (times_place m p) p)) (tied_itself nat_cmp_total (cond (nat_lt p.0 first) 1 0))) ∙ less)
+
+-- the order, for as many exponents as there are weights
+abbrev pub elimination_order : ℕ → List ℕ → PlaceOrder
+elimination_order first ws = record {
+  fits = λ pos len. len == length ws;
+  compare = elimination_compare first ws;
+  is_positive = all_positive ws;
+  total = elimination_total first ws;
+  tied = elimination_tied first ws;
+  kept = elimination_kept first ws;
+  no_smaller = λ positive m p f e. elimination_no_smaller first ws m p positive (length_from_test _ _ f) e;
+}
