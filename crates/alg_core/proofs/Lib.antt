@@ -1,3 +1,5 @@
 pub mod VectorLaws
 pub mod ExponentSteps
 pub mod OrderSteps
+pub mod MonomialLists
+pub mod FittingLists

@@ -1,12 +1,14 @@
 -- Sums and multiples of vectors, and the vectors of lists of entries.
-use Rattle.std.proofs.Common.{◌≡◌, List, [], ◌∷◌, ◌++◌, sym, ap, ◌∙◌}
+use Rattle.std.proofs.Common.{ℕ, length, ◌≡◌, List, [], ◌∷◌, ◌++◌, sym, ap, ◌∙◌}
 use Rattle.std.proofs.lemmas.List.{map-append}
 use Rattle.alg_core.specs.ModuleLaws as modules
 use Rattle.alg_core.specs.Rings.{Linear}
 use Rattle.alg_core.specs.Fields.{FieldOn, Has, scalars, scalar, scalar_add, scalar_mul, scalar_neg, scalar_zero}
 use Rattle.alg_core.specs.FreeModules.{single, class, extend_linear, extend_single, coef_ext, coef_add, coef_act, coef_zero, class_append, class_nothing, class_cons, class_twice, class_zero}
-use Rattle.alg_core.specs.Monomials.{Mon}
+use Rattle.alg_core.specs.Monomials.{Mon, mono}
 use Rattle.alg_core.specs.Keys.{Place, Key, key, key_same, times_key}
+use Rattle.alg_core.specs.PlaceOrders.{times_place}
+use Rattle.alg_core.proofs.MonomialLists.{mono_product}
 use Rattle.alg_core.specs.Vectors.{Entry, Vect, vectors, formal_sum, vec, coef_at, plus, zero_vector, scale, shift}
 
 module _ {E : Type 0} (k : FieldOn E) where
@@ -116,3 +118,8 @@ module _ {E : Type 0} (k : FieldOn E) where
   pub shift_single : (m : Mon) (t : Key) → shift k m (single (scalars k) key_same t) ≡ single (scalars k) key_same (times_key m t)
   unfolding shift
   shift_single m t = extend_single (scalars k) key_same (vectors k) _ t
+
+  -- one entry times a monomial
+  pub shift_entry : (m : List ℕ) (p : Place) (a : E) → length m ≡ length p.1 → shift k (mono m) (vec k ((p, a) ∷ [])) ≡ vec k ((times_place m p, a) ∷ [])
+  unfolding key
+  shift_entry m p a e = ap (shift k (mono m)) (vec_single (p, a)) ∙ (shift_linear (mono m)).act _ _ ∙ ap ((vectors k).◌·◌ (scalar k a)) (shift_single (mono m) (key p) ∙ ap (λ n. single (scalars k) key_same (p.0, n)) (sym (mono_product m p.1 e))) ∙ sym (vec_single (times_place m p, a))

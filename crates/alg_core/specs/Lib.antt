@@ -19,3 +19,8 @@ pub mod PlaceOrders
 pub mod DpOrder
 pub mod BlockOrder
 pub mod EliminationOrder
+pub mod Spaces
+pub mod SpaceOrder
+pub mod Lists
+pub mod SpaceGrading
+pub mod CommonMultiples

@@ -1,4 +1,5 @@
-ghost use Rattle.std.specs.Prelude.{◌≡◌, ◌⊎◌};
+ghost use Rattle.std.specs.Prelude.{◌≡◌, ◌⊎◌, ◌<◌, List};
+ghost use Rattle.std.specs.declared.cmp.Ordering.TheVariants.{Less};
 ghost use Rattle.alg_core.specs.Rings.{Linear};
 ghost use Rattle.alg_core.specs.Fields.{Scalar, scalars, is_field};
 ghost use Rattle.alg_core.specs.FormalSums.{FormalSum};
@@ -6,9 +7,14 @@ ghost use Rattle.alg_core.specs.FreeModules.{single, class};
 ghost use Rattle.alg_core.specs.Keys.{Key, key_same};
 ghost use Rattle.alg_core.specs.KeyOrders.{OrderOn};
 ghost use Rattle.alg_core.specs.CanonicalLists.{IsCanonical, IsLead, terms};
-ghost use Rattle.alg_core.specs.Vectors.{Vect, vectors, plus, zero_vector, coef_at};
+ghost use Rattle.alg_core.specs.Vectors.{Entry, Vect, vectors, formal_sum, vec, plus, zero_vector, coef_at};
+ghost use Rattle.alg_core.specs.Monomials.{Mon, Divides};
+ghost use Rattle.alg_core.specs.CommonMultiples.{mon_lcm};
+ghost use Rattle.alg_core.specs.Spaces.{over, Fits};
+ghost use Rattle.alg_core.specs.SpaceOrder.{key_order};
+ghost use Rattle.alg_core.specs.SpaceGrading.{AllPositive, degree, rank};
 
-use crate::Field;
+use crate::{Field, Space, TermOrder};
 
 /// Sums of vectors commute and associate, and zero changes nothing.
 pub fn vector_sums<F: Field>(_field: &F)
@@ -43,4 +49,29 @@ pub fn vector_terms<F: Field>(_field: &F)
     ensures only { let k = F.field _field.now in (o : OrderOn Key) (l : FormalSum (Scalar k) Key)
         → IsCanonical (scalars k) (is_field k) key_same o l
         → terms (scalars k) (is_field k) key_same o (class (scalars k) key_same l) ≡ l }
+{}
+
+/// The least common multiple of two monomials is a multiple of both and divides each common multiple.
+pub fn common_multiples()
+    ensures left { (a b : Mon) → Divides a (mon_lcm a b) }
+    ensures right { (a b : Mon) → Divides b (mon_lcm a b) }
+    ensures least { (a b c : Mon) → Divides a c → Divides b c → Divides (mon_lcm a b) c }
+{}
+
+/// A list of terms that fits a space is told by its vector: it is the canonical list of the vector by
+/// the order of the space.
+pub fn fitting_lists<F: Field, O: TermOrder>(_space: &Space<F, O>)
+    ensures unique { let S = over F.field O.order _space.now in
+        (es fs : List (Entry F.Elem)) → Fits S es → Fits S fs → vec S.field es ≡ vec S.field fs → es ≡ fs }
+    ensures terms { let S = over F.field O.order _space.now in
+        (es : List (Entry F.Elem)) → Fits S es
+        → terms (scalars S.field) (is_field S.field) key_same (key_order S) (vec S.field es) ≡ formal_sum S.field es }
+{}
+
+/// Where no weight of the grading is 0, the keys of one degree are finitely many: each has a number,
+/// and the numbers rise with the order of the space.
+pub fn finite_degrees<F: Field, O: TermOrder>(_space: &Space<F, O>)
+    ensures rises { let S = over F.field O.order _space.now in
+        (positive : AllPositive S.weights) (s t : Key) → degree S s ≡ degree S t
+        → (key_order S).compare s t ≡ Less → rank S positive s < rank S positive t }
 {}

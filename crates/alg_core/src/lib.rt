@@ -16,12 +16,17 @@ mod order;
 mod place;
 mod space;
 mod term;
+#[cfg(test)]
+mod tests;
 
 pub use block_order::BlockOrder;
 pub use dp::Dp;
 pub use elimination_order::ElimOrder;
 pub use field::Field;
-pub use laws::{linear_functions, vector_sums, vector_terms, vectors_are_maps};
+pub use laws::{
+    common_multiples, finite_degrees, fitting_lists, linear_functions, vector_sums, vector_terms,
+    vectors_are_maps,
+};
 pub use limits::Limits;
 pub use memory::Memory;
 pub use mono::Mono;

@@ -1,4 +1,4 @@
-use Rattle.std.proofs.Common.{◌≡◌, ◌≤◌}
+use Rattle.std.proofs.Common.{◌≤◌}
 use Rattle.alg_core.proofs.OrderSteps.{Walks}
 use Rattle.alg_core.proofs.exponents.compare_reversed.Given as goal
 

@@ -1,4 +1,4 @@
-use Rattle.std.proofs.Common.{◌≡◌, ℕ, ◌<◌, ◌≤◌, ◌*◌, length, get_or, take, replicate, arith, ap, ap₂, ◌∙◌}
+use Rattle.std.proofs.Common.{◌≡◌, ℕ, ◌<◌, ◌*◌, length, get_or, take, replicate, arith, ap₂}
 use Rattle.std.proofs.lemmas.List.{length-replicate, get_or-replicate, get_or-take, length-take-le}
 use Rattle.alg_core.proofs.OrderSteps.{weighted_degree_more}
 use Rattle.alg_core.proofs.exponents.plain_degree.Goals as goal

@@ -1,4 +1,4 @@
-use Rattle.std.proofs.Common.{◌≡◌, ◌≤◌, drop, length}
+use Rattle.std.proofs.Common.{◌≡◌, drop}
 use Rattle.alg_core.specs.ExponentLists.{divides}
 use Rattle.alg_core.proofs.mono.MonoMonomial.divides.Given as goal
 

@@ -1,4 +1,4 @@
-use Rattle.std.proofs.Common.{refl, ◌≡◌, ◌<◌, ◌+◌, ◌-◌, ◌≤◌, ◌^◌, max, length, get_or, arith, rules}
+use Rattle.std.proofs.Common.{refl, ◌≡◌, ◌<◌, ◌+◌, length, arith, rules}
 use Rattle.alg_core.proofs.ExponentSteps.{pushed_more, sum_fits}
 use Rattle.alg_core.proofs.mono.MonoMonomial.product.Goals as goal
 

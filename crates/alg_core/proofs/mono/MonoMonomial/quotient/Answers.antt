@@ -1,5 +1,5 @@
-use Rattle.std.proofs.Common.{refl, ◌≡◌, ◌<◌, ◌+◌, ◌-◌, ◌≤◌, ◌^◌, max, length, get_or, arith}
-use Rattle.alg_core.proofs.ExponentSteps.{pushed_more, sum_fits}
+use Rattle.std.proofs.Common.{refl, ◌≡◌, ◌<◌, ◌-◌, length, arith}
+use Rattle.alg_core.proofs.ExponentSteps.{pushed_more}
 use Rattle.alg_core.proofs.mono.MonoMonomial.quotient.Goals as goal
 
 pub loop-i-preserved : goal.loop-i-preserved
