@@ -1,4 +1,4 @@
-use Rattle.std.proofs.Common.{◌≡◌, ◌<◌, ◌%◌, ◌≢◌, arith}
+use Rattle.std.proofs.Common.{◌<◌, ◌%◌, ◌≢◌, arith}
 use Rattle.std.proofs.lemmas.Nat.{mod_below}
 use Rattle.prime_field.specs.Residues.{inverse_step}
 use Rattle.prime_field.proofs.inverse.inverse.Goals as goal
