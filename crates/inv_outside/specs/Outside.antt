@@ -1,6 +1,7 @@
 -- What sources give, what sinks take, and how often they fail.
 --
 --   Rose before after         a count of faults is greater after than before, or stands after at the last value of 64 bits
+--   rose_clean                a count that stays 0 did not rise
 --   Gave before bytes after   a source that told what it had left gave these bytes, and tells what is left after them
 --   Took before bytes after   a sink that tells what it took told it before too, and took these bytes since
 --   one_more n                n and one more, but never past the last value of 64 bits
@@ -14,10 +15,14 @@
 --   NextIsRefused s           the next call of a sink in memory fails: by its number, or since the room is full
 --   Keeping                   a sink that never fails: the bytes it took, as long as they fit its room, and that room
 --   kept_with s bytes         what such a sink tells after these bytes
+use Rattle.std.proofs.Common.{arith}
 use Rattle.std.specs.Prelude.{◌≡◌, ◌⊎◌, ℕ, ◌<◌, ◌+◌, ◌-◌, ◌^◌, min, nat_le, List, ◌++◌, length, Contains, Option, Some, None, if◌then◌else◌}
 
 abbrev pub Rose : ℕ → ℕ → Type 0
 Rose before after = (before < after) ⊎ (after ≡ 2 ^ 64 - 1)
+
+pub rose_clean : ¬ (Rose 0 0)
+rose_clean r = omega arith
 
 abbrev pub Gave : Option (List ℕ) → List ℕ → Option (List ℕ) → Type 0
 Gave None bytes after = Unit {0}

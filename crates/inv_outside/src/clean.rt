@@ -121,3 +121,11 @@ impl Sink for CleanSink {
         Ok(piece.len())
     }
 }
+
+/// A law for callers: the count of a clean end stays 0, and no count rises from 0 to 0. So an
+/// answer that comes only where the count rose never comes over a clean source or sink.
+pub fn clean_ends_never_rise(source: &CleanSource, sink: &CleanSink)
+    ensures source { ⟦<CleanSource as Source>⟧.faults source.now ≡ 0 }
+    ensures sink { ⟦<CleanSink as Sink>⟧.faults sink.now ≡ 0 }
+    ensures never { ¬ (Rose 0 0) }
+{}

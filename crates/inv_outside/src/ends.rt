@@ -13,7 +13,7 @@ pub trait Source {
     /// How often it failed. The count never falls.
     ghost faults: { Self → ℕ };
 
-    /// Fills the front of a buffer, and answers how many bytes it put there. None is the end.
+    /// Fills the front of a buffer, and answers how many bytes it put there. Zero is the end.
     fn read(&mut self, buf: &mut [u8]) -> Result<usize, Failed>
         requires room { 0 < length buf.old }
         ensures within { IfOk result (λ k. k ≤ length buf.old) }

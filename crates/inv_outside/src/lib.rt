@@ -9,8 +9,11 @@ mod memory;
 mod streams;
 mod whole;
 
-pub use clean::{CleanSink, CleanSource};
+pub use clean::{CleanSink, CleanSource, clean_ends_never_rise};
 pub use ends::{Failed, Sink, Source};
 pub use memory::{MemSink, MemSource};
 pub use streams::{StdSink, StdSource};
 pub use whole::{ReadFault, read_all, write_all};
+
+#[cfg(test)]
+mod tests;
