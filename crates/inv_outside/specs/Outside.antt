@@ -15,6 +15,7 @@
 --   NextIsRefused s           the next call of a sink in memory fails: by its number, or since the room is full
 --   Keeping                   a sink that never fails: the bytes it took, as long as they fit its room, and that room
 --   kept_with s bytes         what such a sink tells after these bytes
+--   Stream                    a reader or writer of std: the bytes that it knows to have left or to hold, and how often it failed
 use Rattle.std.proofs.Common.{arith}
 use Rattle.std.specs.Prelude.{◌≡◌, ◌⊎◌, ℕ, ◌<◌, ◌+◌, ◌-◌, ◌^◌, min, nat_le, List, ◌++◌, length, Contains, Option, Some, None, if◌then◌else◌}
 
@@ -77,3 +78,7 @@ kept_with s bytes = kept_within s.room s.taken bytes where
   kept_within : ℕ → Option (List ℕ) → List ℕ → Option (List ℕ)
   kept_within room None bytes = None
   kept_within room (Some taken) bytes = if nat_le (length taken + length bytes) room then Some (taken ++ bytes) else None
+
+pub record Stream : Type 0 where
+  pub known : Option (List ℕ)
+  pub faults : ℕ
