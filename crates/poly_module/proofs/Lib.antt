@@ -1,0 +1,6 @@
+pub mod Equality
+pub mod SignedEntries
+pub mod Merges
+pub mod MergeSteps
+pub mod Multiples
+pub mod Halves

@@ -2,6 +2,9 @@
 //! substitution.
 #![tactic(auto)]
 
+mod merge;
+mod signs;
 mod vector;
 
+pub use merge::{add, sub};
 pub use vector::{Comb, Poly, Vector};
