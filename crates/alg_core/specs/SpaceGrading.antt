@@ -36,7 +36,7 @@ height [] q = q
 height (s ∷ ss) zero = s
 height (s ∷ ss) (suc q) = height ss q
 
-weight_ext : (ws : List ℕ) (i : ℕ) (a b : List ℕ) → ((j : ℕ) → exponent a j ≡ exponent b j) → weight ws i a ≡ weight ws i b
+pub weight_ext : (ws : List ℕ) (i : ℕ) (a b : List ℕ) → ((j : ℕ) → exponent a j ≡ exponent b j) → weight ws i a ≡ weight ws i b
 unfolding weight
 weight_ext ws i [] [] e = refl
 weight_ext [] i [] (y ∷ b) e = let h = weight_ext [] (suc i) [] b (λ j. e (suc j)) in let z : 0 ≡ y = e 0 in nothing (suc i) y _ z h

@@ -5,7 +5,7 @@ use crate::Monomial;
 use std::cmp::Ordering;
 
 /// The weighted degree of the exponents from `from` on; there is one for each weight.
-pub(crate) fn weighted_degree<M: Monomial>(weights: &[u32], from: usize, m: &M) -> u128
+pub fn weighted_degree<M: Monomial>(weights: &[u32], from: usize, m: &M) -> u128
     requires length { length (M.exps m.now) ≡ from + length weights.now }
     ensures is { result ≡ weighted_degree weights.now (drop from (M.exps m.now)) }
 {

@@ -1,4 +1,5 @@
 pub mod Equality
+pub mod EntryLists
 pub mod SignedEntries
 pub mod Merges
 pub mod MergeSteps

@@ -64,17 +64,5 @@ module _ {E M : Type 0} (S : SpaceOver E) (c : E) (m : List ℕ) (exps : M → L
   pub all : (xs made : List (Term E M)) (n : ℕ) → length xs ≤ n → entries exps made ≡ multiples S c m (entries exps (take n xs)) → entries exps made ≡ multiples S c m (entries exps xs)
   all xs made n h e = e ∙ ap (λ l. multiples S c m (entries exps l)) (take_all n xs h)
 
-  -- each term of a list that fits is a term
-  pub term_at : (xs : List (Term E M)) (i : ℕ) (x : Term E M) → i < length xs → x ≡ get_or xs i x → Fits S (entries exps xs) → IsTerm S (entry exps x)
-  term_at [] i x h read f = absurd (omega arith)
-  term_at (y ∷ xs) zero x h read f = subst (λ z. IsTerm S (entry exps z)) (sym read) f.0
-  term_at (y ∷ xs) (suc i) x h read f = term_at xs i x (omega arith) read f.2
-
-  -- what holds of all entries holds of this one
-  pub all_at : (P : Entry E → Type 0) (xs : List (Term E M)) (i : ℕ) (x : Term E M) → i < length xs → x ≡ get_or xs i x → All P (entries exps xs) → P (entry exps x)
-  all_at P [] i x h read f = absurd (omega arith)
-  all_at P (y ∷ xs) zero x h read f = subst (λ z. P (entry exps z)) (sym read) (f 0 (entry exps y) (omega arith))
-  all_at P (y ∷ xs) (suc i) x h read f = all_at P xs i x (omega arith) read (λ k d w. f (suc k) d (omega arith))
-
   pub nothing_multiple : (es : List (Entry E)) (l : List (Term E M)) → l ≡ [] → c ≡ S.field.zero → vec S.field (entries exps l) ≡ scale S.field c (shift S.field (mono m) (vec S.field es))
   nothing_multiple es l none z = ap (λ l. vec S.field (entries exps l)) none ∙ vec_nothing S.field ∙ sym (scale_zero S.field _) ∙ ap (λ d. scale S.field d (shift S.field (mono m) (vec S.field es))) (sym z)
