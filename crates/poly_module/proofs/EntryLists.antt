@@ -17,4 +17,3 @@ module _ {E M : Type 0} (S : SpaceOver E) (exps : M → List ℕ) where
   given_at P [] i x h read f = absurd (omega arith)
   given_at P (y ∷ xs) zero x h read f = subst (λ z. P (entry exps z)) (sym read) (f 0 (entry exps y) (omega arith))
   given_at P (y ∷ xs) (suc i) x h read f = given_at P xs i x (omega arith) read (λ k d w. f (suc k) d (omega arith))
-

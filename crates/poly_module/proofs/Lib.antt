@@ -3,5 +3,7 @@ pub mod EntryLists
 pub mod SignedEntries
 pub mod Merges
 pub mod MergeSteps
+pub mod MappedTerms
 pub mod Multiples
 pub mod Halves
+pub mod Leads

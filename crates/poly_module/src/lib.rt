@@ -2,9 +2,15 @@
 //! substitution.
 #![tactic(auto)]
 
+mod greatest;
 mod merge;
+mod multiple;
 mod signs;
 mod vector;
+mod whole;
 
+pub use greatest::lead;
 pub use merge::{add, sub};
+pub use multiple::{mul_term, scale};
 pub use vector::{Comb, Poly, Vector};
+pub use whole::make;
