@@ -7,3 +7,4 @@ pub mod MappedTerms
 pub mod Multiples
 pub mod Halves
 pub mod Leads
+pub mod GreatestValues

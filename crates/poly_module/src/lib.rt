@@ -2,6 +2,7 @@
 //! substitution.
 #![tactic(auto)]
 
+mod degrees;
 mod greatest;
 mod merge;
 mod multiple;
@@ -9,6 +10,7 @@ mod signs;
 mod vector;
 mod whole;
 
+pub use degrees::{degree, is_homogeneous};
 pub use greatest::lead;
 pub use merge::{add, sub};
 pub use multiple::{mul_term, scale};
