@@ -1,1 +1,5 @@
 pub mod Signs
+pub mod Polynomials
+pub mod Products
+pub mod Values
+pub mod Substitutions
