@@ -1,0 +1,3 @@
+pub mod Residues
+pub mod ListedPrimes
+pub mod PrimeFields

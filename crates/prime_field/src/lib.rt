@@ -1,0 +1,10 @@
+//! The prime fields GF(p) for the characteristics 2, 3, 5, 7, 11, 257 and 32003.
+#![tactic(auto)]
+
+mod gfp;
+mod inverse;
+
+pub use gfp::{NotListed, PrimeField};
+
+#[cfg(test)]
+mod tests;
