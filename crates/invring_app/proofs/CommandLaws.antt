@@ -19,10 +19,13 @@ AsksBasis-read : (words : List (List ℕ)) (degree : List ℕ) (r : Option ℕ) 
 AsksBasis-read words degree (Some n) are is =
     let read = number_of-some 1000 degree n (omega arith) is in
     ((read.0, are ∙ ap (λ t. codes "basis" ∷ t ∷ []) read.1), tt)
-AsksBasis-read words degree None are is = (tt, λ d asks.
-    let text : degree ≡ decimal d = second _ degree d (sym are ∙ asks.1) in
-    let read : number_of 1000 degree ≡ Some d = ap (number_of 1000) text ∙ number_of-decimal 1000 d asks.0 (omega arith) in
-    absurd cc)
+AsksBasis-read words degree None are is = (
+  tt,
+  λ d asks.
+      let text : degree ≡ decimal d = second _ degree d (sym are ∙ asks.1) in
+      let read : number_of 1000 degree ≡ Some d = ap (number_of 1000) text ∙ number_of-decimal 1000 d asks.0 (omega arith) in
+      absurd cc,
+)
 
 -- the words `basis` and a degree that is read from the second
 pub AsksBasis-two : {X : Type 0} (f : X → List ℕ) (words : List X) (a b : X) (r : Option ℕ) → a ≡ get_or words 0 a → b ≡ get_or words 1 b → length words ≡ 2 → f a ≡ codes "basis" → number_of 1000 (f b) ≡ r

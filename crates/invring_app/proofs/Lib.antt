@@ -1,2 +1,4 @@
 pub mod CommandLaws
+pub mod Fronts
 pub mod NumeralLaws
+pub mod ScriptLaws

@@ -1,2 +1,4 @@
 pub mod Commands
 pub mod Numerals
+pub mod ThinScripts
+pub mod Reading

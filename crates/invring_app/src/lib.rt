@@ -1,5 +1,10 @@
 //! The call of the program: it reads the words and a script, and writes the basis that they ask for.
 #![tactic(auto)]
 
+mod cells;
+mod fault;
+mod names;
 mod number;
+mod parts;
+mod script;
 mod words;
