@@ -1,4 +1,6 @@
 pub mod CommandLaws
 pub mod Fronts
+pub mod NameLaws
 pub mod NumeralLaws
+pub mod PartLaws
 pub mod ScriptLaws

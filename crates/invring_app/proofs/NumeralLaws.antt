@@ -73,3 +73,6 @@ number_of-decimal limit n within small =
     let below : digits_value 0 (decimal n) ≤ limit = omega arith in
     let both : (is_numeral (decimal n) && nat_le (digits_value 0 (decimal n)) limit) ≡ true = and_from _ _ (is_numeral-decimal n small) (le-leb _ _ below) in
     ap (λ t. if t then Some (digits_value 0 (decimal n)) else None) both ∙ ap (λ (m : ℕ). Some m) value
+
+pub all_ascii_digits-decimal : (n : ℕ) → n < 2 ^ 64 → all_ascii_digits (decimal n) ≡ true
+all_ascii_digits-decimal n small = digits_decimal own n small

@@ -1,4 +1,5 @@
-ghost use Rattle.std.specs.Prelude.{◌≡◌};
+ghost use Rattle.std.specs.Prelude.{◌≡◌, ◌≤◌, length};
+ghost use Rattle.std.specs.Bool.{OnTrue};
 ghost use Rattle.invring_app.specs.Reading.{Gives, names_at, are_variables};
 
 use crate::fault::ReadError;
@@ -28,6 +29,7 @@ pub(crate) fn names_at(alloc: Global, bytes: &[u8]) -> Result<(Vec<u8>, &[u8]), 
 #[tactic(auto, unfolding(crate::specs::Reading::are_variables))]
 pub(crate) fn are_variables(names: &[u8]) -> bool
     ensures is { result ≡ are_variables names.now }
+    ensures few { OnTrue result (length names.now ≤ 8) }
 {
     if names.len() > 8 {
         return false;

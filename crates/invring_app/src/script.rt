@@ -1,4 +1,4 @@
-ghost use Rattle.std.specs.Prelude.{◌≡◌, ℕ, ◌≤◌, Err, IfOk};
+ghost use Rattle.std.specs.Prelude.{◌≡◌, ℕ, ◌≤◌, length, IfOk};
 ghost use Rattle.invring_app.specs.Reading.{Gives, ring_at, matrix_at, script_at};
 ghost use Rattle.invring_app.specs.ThinScripts.{ThinScript, ThinScriptText};
 
@@ -33,6 +33,7 @@ pub(crate) struct Script {
 #[tactic(auto, unfolding(crate::specs::Reading::ring_at))]
 fn ring_at(alloc: Global, bytes: &[u8]) -> Result<(Ring, &[u8]), ReadError>
     ensures is { Gives (λ x. ((⟦<PrimeField as Field>⟧.field x.0.field).characteristic, x.0.names.items, x.1.now)) result (ring_at bytes.now) }
+    ensures few { IfOk result (λ x. length x.0.names.items ≤ 8) }
 {
     let rest = after(b"ring R=", bytes)?;
     let (characteristic, rest) = number_at(32003, rest)?;
@@ -67,4 +68,29 @@ fn matrix_at(
     let (cells, rest) = cells_at(alloc, characteristic - 1, count, rest)?;
     let rest = after(b";", rest)?;
     Ok((cells, rest))
+}
+
+/// The script that the bytes are a text of.
+#[tactic(auto, unfolding(crate::specs::Reading::script_at))]
+pub(crate) fn script_of(alloc: Global, bytes: &[u8]) -> Result<Script, ReadError>
+    ensures is { Gives (λ s. record { characteristic = (⟦<PrimeField as Field>⟧.field s.field).characteristic; names = s.names.items; cells = s.cells.items }) result (script_at bytes.now) }
+{
+    if bytes.len() > LIMIT {
+        return Err(ReadError::Malformed);
+    }
+    let (ring, rest) = ring_at(alloc, bytes)?;
+    let rest = blank_at(rest)?;
+    let Ring { field, names } = ring;
+    let (cells, rest) = matrix_at(
+        alloc,
+        field.characteristic() as u16,
+        names.len() as u32,
+        rest,
+    )?;
+    end_at(rest)?;
+    Ok(Script {
+        field,
+        names,
+        cells,
+    })
 }
