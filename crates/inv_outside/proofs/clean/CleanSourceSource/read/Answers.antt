@@ -1,0 +1,9 @@
+use Rattle.std.proofs.Common.{◌∙◌, sym, drop, arith}
+use Rattle.inv_outside.proofs.Told.{drop-copied}
+use Rattle.inv_outside.proofs.clean.CleanSourceSource.read.Goals as goal
+
+pub returns-clause-gave : goal.returns-clause-gave
+returns-clause-gave c =
+    let bytes = c.self.inside.bytes.items in
+    let copied = rw c.deref.ensures.value at c.copy_from_slice.ensures.after in
+    sym c.self.view_is ∙ drop-copied bytes c.copy_from_slice.new.self (drop c.min-count.result c.args.buf.now) c.self.inside.at c.min-count.result (omega arith) copied
