@@ -1,3 +1,4 @@
+pub mod BinomialLaws
 pub mod CommandLaws
 pub mod Fronts
 pub mod NameLaws

@@ -2,6 +2,7 @@
 #![tactic(auto)]
 
 mod cells;
+mod count;
 mod fault;
 mod names;
 mod number;
