@@ -1,4 +1,6 @@
 pub mod Commands
+pub mod Monomials
 pub mod Numerals
-pub mod ThinScripts
+pub mod Outputs
 pub mod Reading
+pub mod ThinScripts
