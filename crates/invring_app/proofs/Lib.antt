@@ -4,4 +4,5 @@ pub mod Fronts
 pub mod NameLaws
 pub mod NumeralLaws
 pub mod PartLaws
+pub mod RefusalLaws
 pub mod ScriptLaws

@@ -1,6 +1,6 @@
 -- What is read is a text of a thin script, and each text of a thin script is read.
 use Rattle.std.proofs.Common.{◌≡◌, ◌≢◌, ℕ, zero, suc, ◌+◌, ◌-◌, ◌*◌, ◌^◌, ◌<◌, ◌≤◌, ◌&&◌, ◌||◌, Bool, true, false, eqb, List, [], ◌∷◌, ◌++◌, length, map, All, Some, None, refl, sym, ap, subst, ◌∙◌, append_assoc, arith, inl, inr, if◌then◌else◌}
-use Rattle.std.specs.Prelude.{Option, codes, decimal, ◌==◌, nat_le}
+use Rattle.std.specs.Prelude.{Option, Result, Ok, Err, IfOk, codes, decimal, ◌==◌, nat_le}
 use Rattle.std.specs.List.{join_with_byte}
 use Rattle.std.proofs.lemmas.Bool.{and_from, and_parts, or_cases, eqb-true, leb-true, le-leb}
 use Rattle.std.proofs.lemmas.Bool.Decides.{nat_tests}
@@ -8,7 +8,9 @@ use Rattle.std.proofs.lemmas.List.Elements.{All-weaker}
 use Rattle.std.proofs.lemmas.Option.{cond_some}
 use Rattle.prime_field.specs.ListedPrimes.{is_listed}
 use Rattle.prime_field.specs.PrimeFields.{listed_positive}
-use Rattle.invring_app.specs.Reading.{◌>>=◌, after, number_at, numeral_at, names_at, numbers_at, are_variables, ring_at, matrix_at, blank_at, end_at, script_at}
+use Rattle.invring_app.specs.declared.fault.ReadError.{ReadError}
+use Rattle.invring_app.specs.declared.fault.ReadError.TheVariants as errors
+use Rattle.invring_app.specs.Reading.{◌>>=◌, Gives, after, number_at, numeral_at, names_at, numbers_at, are_variables, ring_at, matrix_at, blank_at, end_at, script_at}
 use Rattle.invring_app.specs.ThinScripts.{ThinScript, IsThinScript, AreVariables, ring_text, matrix_text, IsBlank, IsEnding, thin_text, ThinScriptText}
 use Rattle.invring_app.proofs.PartLaws.{bind_some, bind_at, some_is, after-takes, after-again, number_at-takes, number_at-again, numeral_at-takes, numeral_at-again, Numbers, numbers_at-takes, numbers_at-again}
 use Rattle.invring_app.proofs.NameLaws.{name_list, names_at-takes, names_at-again, are_variables-found, are_variables-only}
@@ -225,3 +227,14 @@ script_at-takes bytes s is =
 -- bytes are the text of one script at most
 pub ThinScriptText-unique : (bytes : List ℕ) (s t : ThinScript) → ThinScriptText bytes s → ThinScriptText bytes t → s ≡ t
 ThinScriptText-unique bytes s t is is' = some_is s t (sym (script_at-again bytes s is) ∙ script_at-again bytes t is')
+
+-- the two laws, of what a reader gives
+pub script-found : {X : Type 0} (view : X → ThinScript) (bytes : List ℕ) (r : Result X ReadError) → Gives view r (script_at bytes) → IfOk r (λ x. ThinScriptText bytes (view x))
+script-found view bytes (Ok x) given = script_at-takes bytes (view x) given
+script-found view bytes (Err e) given = tt
+
+pub script-only : {X : Type 0} (view : X → ThinScript) (bytes : List ℕ) (r : Result X ReadError) → Gives view r (script_at bytes) → r ≡ Err errors.Malformed → (s : ThinScript) → ¬ ThinScriptText bytes s
+script-only {X} view bytes r given is s text =
+    let none : script_at bytes ≡ None = subst (λ (t : Result X ReadError). Gives view t (script_at bytes)) is given in
+    let read : script_at bytes ≡ Some s = script_at-again bytes s text in
+    absurd cc

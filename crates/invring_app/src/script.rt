@@ -94,3 +94,11 @@ pub(crate) fn script_of(alloc: Global, bytes: &[u8]) -> Result<Script, ReadError
         cells,
     })
 }
+
+/// The script that the bytes are a text of. `Malformed` says that they are a text of none.
+pub(crate) fn read_script(alloc: Global, bytes: &[u8]) -> Result<Script, ReadError>
+    ensures found { IfOk result (λ s. ThinScriptText bytes.now (record { characteristic = (⟦<PrimeField as Field>⟧.field s.field).characteristic; names = s.names.items; cells = s.cells.items })) }
+    ensures only { result ≡ Err ReadError.Malformed → (s : ThinScript) → ¬ ThinScriptText bytes.now s }
+{
+    script_of(alloc, bytes)
+}
