@@ -1,6 +1,7 @@
 -- Two words, and the degree that they ask for.
 use Rattle.std.proofs.Common.{◌≡◌, ℕ, ◌+◌, ◌^◌, ◌<◌, ◌≤◌, Bool, true, false, List, [], ◌∷◌, length, get_or, map, refl, sym, ap, subst, ◌∙◌, arith, Some, None}
 use Rattle.std.specs.Prelude.{Option, IfSome, IfNone, codes, decimal}
+use Rattle.std.proofs.lemmas.Fmt.{decimal_injective}
 use Rattle.invring_app.specs.Commands.{AsksBasis}
 use Rattle.invring_app.specs.Numerals.{number_of}
 use Rattle.invring_app.proofs.NumeralLaws.{number_of-some, number_of-decimal}
@@ -31,3 +32,7 @@ AsksBasis-read words degree None are is = (
 pub AsksBasis-two : {X : Type 0} (f : X → List ℕ) (words : List X) (a b : X) (r : Option ℕ) → a ≡ get_or words 0 a → b ≡ get_or words 1 b → length words ≡ 2 → f a ≡ codes "basis" → number_of 1000 (f b) ≡ r
     → IfSome r (AsksBasis (map f words)) × IfNone r ((d : ℕ) → ¬ AsksBasis (map f words) d)
 AsksBasis-two f words a b r p q two command is = AsksBasis-read (map f words) (f b) r (map_two f words a b p q two ∙ ap (λ t. t ∷ f b ∷ []) command) is
+
+-- words ask for one degree at most
+pub AsksBasis-unique : (words : List (List ℕ)) (d e : ℕ) → AsksBasis words d → AsksBasis words e → d ≡ e
+AsksBasis-unique words d e asks asks' = decimal_injective d e (omega (arith, asks.0)) (omega (arith, asks'.0)) (second _ (decimal d) e (sym asks.1 ∙ asks'.1))

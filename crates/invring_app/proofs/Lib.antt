@@ -5,4 +5,5 @@ pub mod NameLaws
 pub mod NumeralLaws
 pub mod PartLaws
 pub mod RefusalLaws
+pub mod RunLaws
 pub mod ScriptLaws

@@ -105,22 +105,31 @@ pub record Numbers (limit k : ℕ) (cs : List ℕ) : Type 0 where
   pub count : length cs ≡ k
   pub within : All (λ c. c ≤ limit) cs
 
-more_numbers_at-takes : (limit k : ℕ) (bytes : List ℕ) (x : List ℕ × List ℕ) → limit < 2 ^ 64 → more_numbers_at limit k bytes ≡ Some x → Numbers limit k x.0 × (bytes ≡ following x.0 ++ x.1)
+-- numbers after commas, with what follows them
+pub record Follow (limit k : ℕ) (bytes : List ℕ) (x : List ℕ × List ℕ) : Type 0 where
+  pub numbers : Numbers limit k x.0
+  pub text : bytes ≡ following x.0 ++ x.1
+
+Follow-nil : (limit : ℕ) (bytes : List ℕ) → Follow limit 0 bytes ([], bytes)
+Follow-nil limit bytes = record { numbers = record { count = refl; within = All-nil (λ c. c ≤ limit) }; text = refl }
+
+Follow-cons : (limit k : ℕ) (bytes a rest : List ℕ) (n : ℕ) (x : List ℕ × List ℕ) → limit < 2 ^ 64 → after (codes ",") bytes ≡ Some a → number_at limit a ≡ Some (n, rest) → Follow limit k rest x → Follow limit (suc k) bytes (n ∷ x.0, x.1)
+Follow-cons limit k bytes a rest n x small comma read others =
+    let number = number_at-takes limit a n rest small read in
+    let text : a ≡ (decimal n ++ following x.0) ++ x.1 = number.1 ∙ ap (λ t. decimal n ++ t) others.text ∙ sym (append_assoc (decimal n) (following x.0) x.1) in
+    record {
+      numbers = record { count = ap suc others.numbers.count; within = All-cons (λ c. c ≤ limit) n x.0 number.0 others.numbers.within };
+      text = after-takes (codes ",") bytes a comma ∙ ap (λ t. codes "," ++ t) text;
+    }
+
+more_numbers_at-takes : (limit k : ℕ) (bytes : List ℕ) (x : List ℕ × List ℕ) → limit < 2 ^ 64 → more_numbers_at limit k bytes ≡ Some x → Follow limit k bytes x
 unfolding more_numbers_at
-more_numbers_at-takes limit zero bytes x small is =
-    subst (λ (y : List ℕ × List ℕ). Numbers limit 0 y.0 × (bytes ≡ following y.0 ++ y.1)) (some_is ([], bytes) x is) (record { count = refl; within = All-nil _ }, refl)
+more_numbers_at-takes limit zero bytes x small is = subst (Follow limit 0 bytes) (some_is ([], bytes) x is) (Follow-nil limit bytes)
 more_numbers_at-takes limit (suc k) bytes x small is =
     let a = bind_some (after (codes ",") bytes) (λ rest. number_at limit rest >>= λ first. more_numbers_at limit k first.1 >>= λ others. Some (first.0 ∷ others.0, others.1)) x is in
     let b = bind_some (number_at limit a.0) (λ first. more_numbers_at limit k first.1 >>= λ others. Some (first.0 ∷ others.0, others.1)) x a.2 in
     let c = bind_some (more_numbers_at limit k b.0.1) (λ others. Some (b.0.0 ∷ others.0, others.1)) x b.2 in
-    let comma : bytes ≡ codes "," ++ a.0 = after-takes (codes ",") bytes a.0 a.1 in
-    let number = number_at-takes limit a.0 b.0.0 b.0.1 small b.1 in
-    let others = more_numbers_at-takes limit k b.0.1 c.0 small c.1 in
-    let made : List ℕ × List ℕ = (b.0.0 ∷ c.0.0, c.0.1) in
-    let text : bytes ≡ following made.0 ++ made.1 =
-    comma ∙ ap (λ t. codes "," ++ t) (number.1 ∙ ap (λ t. decimal b.0.0 ++ t) others.1 ∙ sym (append_assoc (decimal b.0.0) (following c.0.0) c.0.1)) in
-    subst (λ (y : List ℕ × List ℕ). Numbers limit (suc k) y.0 × (bytes ≡ following y.0 ++ y.1)) (some_is made x c.2)
-    (record { count = ap suc others.0.count; within = All-cons (λ c. c ≤ limit) b.0.0 c.0.0 number.0 others.0.within }, text)
+    subst (Follow limit (suc k) bytes) (some_is (b.0.0 ∷ c.0.0, c.0.1) x c.2) (Follow-cons limit k bytes a.0 b.0.1 b.0.0 c.0 small a.1 b.1 (more_numbers_at-takes limit k b.0.1 c.0 small c.1))
 
 more_numbers_at-again : (limit : ℕ) (cs rest : List ℕ) → limit < 2 ^ 64 → All (λ c. c ≤ limit) cs → NoDigit rest → more_numbers_at limit (length cs) (following cs ++ rest) ≡ Some (cs, rest)
 unfolding more_numbers_at
@@ -134,18 +143,25 @@ more_numbers_at-again limit (c ∷ cs) rest small within none =
     ∙ bind_at (number_at limit (decimal c ++ following cs ++ rest)) (λ first. more_numbers_at limit (length cs) first.1 >>= λ others. Some (first.0 ∷ others.0, others.1)) (c, later) number
     ∙ bind_at (more_numbers_at limit (length cs) later) (λ others. Some (c ∷ others.0, others.1)) (cs, rest) others
 
-pub numbers_at-takes : (limit k : ℕ) (bytes cs rest : List ℕ) → 1 ≤ k → limit < 2 ^ 64 → numbers_at limit k bytes ≡ Some (cs, rest) → Numbers limit k cs × (bytes ≡ join_with_byte 44 (map decimal cs) ++ rest)
+-- numbers with commas between them, with what follows them
+pub record Row (limit k : ℕ) (bytes : List ℕ) (x : List ℕ × List ℕ) : Type 0 where
+  pub numbers : Numbers limit k x.0
+  pub text : bytes ≡ join_with_byte 44 (map decimal x.0) ++ x.1
+
+Row-parts : (limit k : ℕ) (bytes rest : List ℕ) (n : ℕ) (x : List ℕ × List ℕ) → 1 ≤ k → limit < 2 ^ 64 → number_at limit bytes ≡ Some (n, rest) → Follow limit (k - 1) rest x → Row limit k bytes (n ∷ x.0, x.1)
+Row-parts limit k bytes rest n x some small read others =
+    let number = number_at-takes limit bytes n rest small read in
+    record {
+      numbers = record { count = omega (arith, others.numbers.count); within = All-cons (λ c. c ≤ limit) n x.0 number.0 others.numbers.within };
+      text = number.1 ∙ ap (λ t. decimal n ++ t) others.text ∙ sym (append_assoc (decimal n) (following x.0) x.1) ∙ ap (λ t. t ++ x.1) (sym (join-decimal n x.0));
+    }
+
+pub numbers_at-takes : (limit k : ℕ) (bytes : List ℕ) (x : List ℕ × List ℕ) → 1 ≤ k → limit < 2 ^ 64 → numbers_at limit k bytes ≡ Some x → Row limit k bytes x
 unfolding numbers_at
-numbers_at-takes limit k bytes cs rest some small is =
-    let b = bind_some (number_at limit bytes) (λ first. more_numbers_at limit (k - 1) first.1 >>= λ others. Some (first.0 ∷ others.0, others.1)) (cs, rest) is in
-    let c = bind_some (more_numbers_at limit (k - 1) b.0.1) (λ others. Some (b.0.0 ∷ others.0, others.1)) (cs, rest) b.2 in
-    let number = number_at-takes limit bytes b.0.0 b.0.1 small b.1 in
-    let others = more_numbers_at-takes limit (k - 1) b.0.1 c.0 small c.1 in
-    let made : List ℕ × List ℕ = (b.0.0 ∷ c.0.0, c.0.1) in
-    let text : bytes ≡ join_with_byte 44 (map decimal made.0) ++ made.1 =
-    number.1 ∙ ap (λ t. decimal b.0.0 ++ t) others.1 ∙ sym (append_assoc (decimal b.0.0) (following c.0.0) c.0.1) ∙ ap (λ t. t ++ c.0.1) (sym (join-decimal b.0.0 c.0.0)) in
-    subst (λ (y : List ℕ × List ℕ). Numbers limit k y.0 × (bytes ≡ join_with_byte 44 (map decimal y.0) ++ y.1)) (some_is made (cs, rest) c.2)
-    (record { count = omega (arith, others.0.count); within = All-cons (λ c. c ≤ limit) b.0.0 c.0.0 number.0 others.0.within }, text)
+numbers_at-takes limit k bytes x some small is =
+    let b = bind_some (number_at limit bytes) (λ first. more_numbers_at limit (k - 1) first.1 >>= λ others. Some (first.0 ∷ others.0, others.1)) x is in
+    let c = bind_some (more_numbers_at limit (k - 1) b.0.1) (λ others. Some (b.0.0 ∷ others.0, others.1)) x b.2 in
+    subst (Row limit k bytes) (some_is (b.0.0 ∷ c.0.0, c.0.1) x c.2) (Row-parts limit k bytes b.0.1 b.0.0 c.0 some small b.1 (more_numbers_at-takes limit (k - 1) b.0.1 c.0 small c.1))
 
 pub numbers_at-again : (limit k : ℕ) (cs rest : List ℕ) → 1 ≤ k → limit < 2 ^ 64 → Numbers limit k cs → NoDigit rest → numbers_at limit k (join_with_byte 44 (map decimal cs) ++ rest) ≡ Some (cs, rest)
 unfolding numbers_at

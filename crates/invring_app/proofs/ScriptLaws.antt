@@ -158,15 +158,15 @@ matrix_parts p names bytes a b c d e cells f g positive small some few e1 e2 e3 
     let n : List ℕ = decimal (length names) in
     let all : List ℕ = join_with_byte 44 (map decimal cells) in
     let many : 1 ≤ length names * length names = grind arith in
-    let numbers = numbers_at-takes (p - 1) (length names * length names) e cells f many (omega arith) e6 in
-    let t6 : e ≡ all ++ (codes ";" ++ g) = numbers.1 ∙ ap (λ t. all ++ t) (after-takes (codes ";") f g e7) in
+    let numbers = numbers_at-takes (p - 1) (length names * length names) e (cells, f) many (omega arith) e6 in
+    let t6 : e ≡ all ++ (codes ";" ++ g) = numbers.text ∙ ap (λ t. all ++ t) (after-takes (codes ";") f g e7) in
     let t5 : d ≡ codes "]=" ++ (all ++ (codes ";" ++ g)) = after-takes (codes "]=") d e e5 ∙ ap (λ t. codes "]=" ++ t) t6 in
     let t4 : c ≡ n ++ (codes "]=" ++ (all ++ (codes ";" ++ g))) = numeral_at-takes (length names) c d (omega arith) e4 ∙ ap (λ t. n ++ t) t5 in
     let t3 : b ≡ codes "][" ++ (n ++ (codes "]=" ++ (all ++ (codes ";" ++ g)))) = after-takes (codes "][") b c e3 ∙ ap (λ t. codes "][" ++ t) t4 in
     let t2 : a ≡ n ++ (codes "][" ++ (n ++ (codes "]=" ++ (all ++ (codes ";" ++ g))))) = numeral_at-takes (length names) a b (omega arith) e2 ∙ ap (λ t. n ++ t) t3 in
     record {
-      square = numbers.0.count;
-      below = All-weaker (λ c. c ≤ p - 1) (λ c. c < p) (λ x h. omega arith) cells numbers.0.within;
+      square = numbers.numbers.count;
+      below = All-weaker (λ c. c ≤ p - 1) (λ c. c < p) (λ x h. omega arith) cells numbers.numbers.within;
       text = after-takes (codes "matrix A[") bytes a e1 ∙ ap (λ t. codes "matrix A[" ++ t) t2 ∙ sym (matrix_text-parts p names cells g);
     }
 

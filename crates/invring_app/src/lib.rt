@@ -11,6 +11,8 @@ mod number;
 mod parts;
 mod script;
 mod status;
+mod top_call;
 mod words;
 
 pub use status::{BoundFault, Status};
+pub use top_call::run;
