@@ -16,3 +16,6 @@ mod words;
 
 pub use status::{BoundFault, Status};
 pub use top_call::run;
+
+#[cfg(test)]
+mod tests;

@@ -81,18 +81,16 @@ pub(crate) fn script_of(alloc: Global, bytes: &[u8]) -> Result<Script, ReadError
     let (ring, rest) = ring_at(alloc, bytes)?;
     let rest = blank_at(rest)?;
     let Ring { field, names } = ring;
-    let (cells, rest) = matrix_at(
-        alloc,
-        field.characteristic() as u16,
-        names.len() as u32,
-        rest,
-    )?;
+    let characteristic = field.characteristic() as u16;
+    let size = names.len() as u32;
+    let (cells, rest) = matrix_at(alloc, characteristic, size, rest)?;
     end_at(rest)?;
-    Ok(Script {
+    let script = Script {
         field,
         names,
         cells,
-    })
+    };
+    Ok(script)
 }
 
 /// The script that the bytes are a text of. `Malformed` says that they are a text of none.
