@@ -81,7 +81,7 @@ fn take_pivot<F: Field<Elem = u16>>(
     for i in 0..rows.len() {
         if let Some(inverse) = field.inv(rows[i][column]) {
             let mut row = rows.swap_remove(i);
-            scale(field, row.as_mut_slice(), inverse);
+            scale(field, &mut row, inverse);
             return Some(row);
         }
     }
@@ -103,46 +103,40 @@ fn scale<F: Field<Elem = u16>>(field: &F, row: &mut [u16], factor: u16)
 /// 0 there.
 fn clear_column<F: Field<Elem = u16>>(
     field: &F,
-    rows: &mut Vec<Vec<u16>>,
+    rows: &mut [Vec<u16>],
     column: usize,
-    pivot: &Vec<u16>,
+    pivot: &[u16],
 )
-    requires column { column < vec_len pivot.now }
-    requires pivot { All (Has (F.field field.now)) pivot.now.items }
-    requires lengths { All (λ r. vec_len r ≡ vec_len pivot.now) rows.old.items }
-    requires has { All (λ r. All (Has (F.field field.now)) r.items) rows.old.items }
-    ensures count { vec_len rows.new ≡ vec_len rows.old }
-    ensures lengths { All (λ r. vec_len r ≡ vec_len pivot.now) rows.new.items }
-    ensures has { All (λ r. All (Has (F.field field.now)) r.items) rows.new.items }
+    requires column { column < length pivot.now }
+    requires pivot { All (Has (F.field field.now)) pivot.now }
+    requires lengths { All (λ r. vec_len r ≡ length pivot.now) rows.old }
+    requires has { All (λ r. All (Has (F.field field.now)) r.items) rows.old }
+    ensures lengths { All (λ r. vec_len r ≡ length pivot.now) rows.new }
+    ensures has { All (λ r. All (Has (F.field field.now)) r.items) rows.new }
 {
     for row in rows.iter_mut() {
         clear_entry(field, row, column, pivot);
     }
 }
 
-/// Subtracts the multiple of the pivot row that makes the entry in the column 0.
-fn clear_entry<F: Field<Elem = u16>>(field: &F, row: &mut Vec<u16>, column: usize, pivot: &Vec<u16>)
-    requires column { column < vec_len pivot.now }
-    requires pivot { All (Has (F.field field.now)) pivot.now.items }
-    requires lengths { vec_len row.old ≡ vec_len pivot.now }
-    requires row { All (Has (F.field field.now)) row.old.items }
-    ensures length { vec_len row.new ≡ vec_len pivot.now }
-    ensures has { All (Has (F.field field.now)) row.new.items }
+/// Subtracts the multiple of the pivot row that makes the entry in the column 0. Right of the
+/// column the pivot row is 0.
+fn clear_entry<F: Field<Elem = u16>>(field: &F, row: &mut [u16], column: usize, pivot: &[u16])
+    requires column { column < length pivot.now }
+    requires pivot { All (Has (F.field field.now)) pivot.now }
+    requires lengths { length row.old ≡ length pivot.now }
+    requires row { All (Has (F.field field.now)) row.old }
+    ensures has { All (Has (F.field field.now)) row.new }
 {
     let entry = row[column];
     if entry != field.zero() {
-        add_multiple(
-            field,
-            row.as_mut_slice(),
-            field.neg(entry),
-            pivot.as_slice(),
-        );
+        add_multiple(field, row, field.neg(entry), &pivot[..column + 1]);
     }
 }
 
 /// Adds the multiple of the other row by the factor.
 fn add_multiple<F: Field<Elem = u16>>(field: &F, row: &mut [u16], factor: u16, other: &[u16])
-    requires lengths { length row.old ≡ length other.now }
+    requires lengths { length other.now ≤ length row.old }
     requires row { All (Has (F.field field.now)) row.old }
     requires factor { Has (F.field field.now) factor }
     requires other { All (Has (F.field field.now)) other.now }

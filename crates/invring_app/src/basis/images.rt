@@ -51,13 +51,13 @@ fn raised_rows<F: Field<Elem = u16>>(
     field: &F,
     matrix: &[u16],
     monomials: &Monomials,
-    below: &Vec<Vec<u16>>,
+    below: &[Vec<u16>],
 ) -> Result<Vec<Vec<u16>>, Memory>
     requires square { length matrix.now ≡ monomials.now.variables * monomials.now.variables }
     requires matrix { All (Has (F.field field.now)) matrix.now }
-    requires count { vec_len below.now ≡ monomials.now.below }
-    requires lengths { All (λ r. vec_len r ≡ monomials.now.below) below.now.items }
-    requires has { All (λ r. All (Has (F.field field.now)) r.items) below.now.items }
+    requires count { length below.now ≡ monomials.now.below }
+    requires lengths { All (λ r. vec_len r ≡ monomials.now.below) below.now }
+    requires has { All (λ r. All (Has (F.field field.now)) r.items) below.now }
     ensures count { IfOk result (λ rs. vec_len rs ≡ vec_len monomials.now.all) }
     ensures lengths { IfOk result (λ rs. All (λ r. vec_len r ≡ vec_len monomials.now.all) rs.items) }
     ensures has { IfOk result (λ rs. All (λ r. All (Has (F.field field.now)) r.items) rs.items) }
@@ -86,12 +86,12 @@ fn product<F: Field<Elem = u16>>(
     field: &F,
     monomials: &Monomials,
     form: &[u16],
-    polynomial: &Vec<u16>,
+    polynomial: &[u16],
 ) -> Result<Vec<u16>, Memory>
     requires variables { length form.now ≡ monomials.now.variables }
     requires form { All (Has (F.field field.now)) form.now }
-    requires length { vec_len polynomial.now ≡ monomials.now.below }
-    requires polynomial { All (Has (F.field field.now)) polynomial.now.items }
+    requires length { length polynomial.now ≡ monomials.now.below }
+    requires polynomial { All (Has (F.field field.now)) polynomial.now }
     ensures length { IfOk result (λ r. vec_len r ≡ vec_len monomials.now.all) }
     ensures has { IfOk result (λ r. All (Has (F.field field.now)) r.items) }
 {
@@ -100,10 +100,10 @@ fn product<F: Field<Elem = u16>>(
         if *factor != field.zero() {
             add_moved(
                 field,
-                sum.as_mut_slice(),
+                &mut sum,
                 *factor,
-                polynomial.as_slice(),
-                monomials.products[variable].as_slice(),
+                polynomial,
+                &monomials.products[variable],
             );
         }
     }
@@ -137,12 +137,12 @@ fn add_moved<F: Field<Elem = u16>>(
 pub(super) fn equations<F: Field<Elem = u16>>(
     alloc: Global,
     field: &F,
-    images: &Vec<Vec<u16>>,
+    images: &[Vec<u16>],
 ) -> Result<Vec<Vec<u16>>, Memory>
-    requires lengths { All (λ r. vec_len r ≡ vec_len images.now) images.now.items }
-    requires has { All (λ r. All (Has (F.field field.now)) r.items) images.now.items }
-    ensures count { IfOk result (λ rs. vec_len rs ≡ vec_len images.now) }
-    ensures lengths { IfOk result (λ rs. All (λ r. vec_len r ≡ vec_len images.now) rs.items) }
+    requires lengths { All (λ r. vec_len r ≡ length images.now) images.now }
+    requires has { All (λ r. All (Has (F.field field.now)) r.items) images.now }
+    ensures count { IfOk result (λ rs. vec_len rs ≡ length images.now) }
+    ensures lengths { IfOk result (λ rs. All (λ r. vec_len r ≡ length images.now) rs.items) }
     ensures has { IfOk result (λ rs. All (λ r. All (Has (F.field field.now)) r.items) rs.items) }
 {
     let mut rows = Vec::new(alloc);
@@ -156,13 +156,13 @@ pub(super) fn equations<F: Field<Elem = u16>>(
 fn equation<F: Field<Elem = u16>>(
     alloc: Global,
     field: &F,
-    images: &Vec<Vec<u16>>,
+    images: &[Vec<u16>],
     place: usize,
 ) -> Result<Vec<u16>, Memory>
-    requires place { place < vec_len images.now }
-    requires lengths { All (λ r. vec_len r ≡ vec_len images.now) images.now.items }
-    requires has { All (λ r. All (Has (F.field field.now)) r.items) images.now.items }
-    ensures length { IfOk result (λ r. vec_len r ≡ vec_len images.now) }
+    requires place { place < length images.now }
+    requires lengths { All (λ r. vec_len r ≡ length images.now) images.now }
+    requires has { All (λ r. All (Has (F.field field.now)) r.items) images.now }
+    ensures length { IfOk result (λ r. vec_len r ≡ length images.now) }
     ensures has { IfOk result (λ r. All (Has (F.field field.now)) r.items) }
 {
     let minus_one = field.neg(field.one());

@@ -1,4 +1,4 @@
-ghost use Rattle.std.specs.Prelude.{◌≡◌, ◌+◌, ◌^◌, ◌<◌, ◌≤◌, All, IfOk, OnOk, vec_len};
+ghost use Rattle.std.specs.Prelude.{◌≡◌, ◌+◌, ◌^◌, ◌<◌, ◌≤◌, All, IfOk, length, vec_len};
 ghost use Rattle.invring_app.specs.Monomials.{ArePlaces, IsPlaced};
 
 use alg_core::Memory;
@@ -125,13 +125,13 @@ impl Monomials {
         &self,
         alloc: Global,
         raised: Vec<Monomial>,
-        direct: &Vec<Vec<usize>>,
+        direct: &[Vec<usize>],
     ) -> Result<Monomials, Memory>
         requires degree { self.now.degree + 1 < 2 ^ 32 }
         requires some { 0 < vec_len raised }
         requires placed { All (IsPlaced self.now.variables (self.now.degree + 1) (vec_len self.now.all)) raised.items }
-        requires complete { vec_len direct.now ≡ self.now.variables }
-        requires places { All (λ ps. ArePlaces (vec_len self.now.all) (vec_len raised) ps.items) direct.now.items }
+        requires complete { length direct.now ≡ self.now.variables }
+        requires places { All (λ ps. ArePlaces (vec_len self.now.all) (vec_len raised) ps.items) direct.now }
         ensures variables { IfOk result (λ t. t.variables ≡ self.now.variables) }
         ensures degree { IfOk result (λ t. t.degree ≡ self.now.degree + 1) }
         ensures below { IfOk result (λ t. t.below ≡ vec_len self.now.all) }

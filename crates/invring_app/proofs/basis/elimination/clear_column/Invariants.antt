@@ -5,6 +5,6 @@ use Rattle.invring_app.proofs.basis.elimination.clear_column.Given as goal
 abbrev pub invariant-loop-row : goal.invariant-loop-row
 invariant-loop-row g l =
     record {
-      lengths : All (λ r. vec_len r ≡ vec_len l.pivot) l.row-items;
-      has : All (λ r. All (Has (g.F.Field.field l.field)) r.items) l.row-items;
+      lengths : All (λ r. vec_len r ≡ length l.pivot) l.rows;
+      has : All (λ r. All (Has (g.F.Field.field l.field)) r.items) l.rows;
     }

@@ -6,6 +6,6 @@ abbrev pub invariant-loop-i : goal.invariant-loop-i
 invariant-loop-i g l =
     record {
       count : vec_len l.rows ≡ l.i;
-      lengths : All (λ r. vec_len r ≡ vec_len l.images) l.rows.items;
+      lengths : All (λ r. vec_len r ≡ length l.images) l.rows.items;
       has : All (λ r. All (Has (g.F.Field.field l.field)) r.items) l.rows.items;
     }
