@@ -1,0 +1,8 @@
+//! Matrices over a field: products, reduced row echelon form, kernels, linear systems and inverses.
+#![tactic(auto)]
+
+mod elimination;
+mod matrix;
+mod rows;
+
+pub use matrix::{Echelon, Matrix};
