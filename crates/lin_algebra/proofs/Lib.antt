@@ -7,3 +7,5 @@ pub mod KernelLaws
 pub mod RowLaws
 pub mod InsertLaws
 pub mod BasisLaws
+pub mod CutLaws
+pub mod ProductLaws

@@ -3,6 +3,8 @@
 
 mod elimination;
 mod matrix;
+mod products;
 mod rows;
 
 pub use matrix::{Echelon, Matrix};
+pub use products::multiply;
