@@ -8,3 +8,4 @@ pub mod Multiples
 pub mod Halves
 pub mod Leads
 pub mod GreatestValues
+pub mod Factors
