@@ -4,3 +4,6 @@ pub mod Merges
 pub mod MergeSteps
 pub mod Multiples
 pub mod Halves
+pub mod ModuleElements
+pub mod KeyGrowth
+pub mod Reduced
