@@ -9,3 +9,6 @@ pub mod Halves
 pub mod Leads
 pub mod GreatestValues
 pub mod Factors
+pub mod ModuleElements
+pub mod KeyGrowth
+pub mod Reduced

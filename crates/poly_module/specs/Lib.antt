@@ -2,7 +2,11 @@ pub mod Signs
 pub mod Polynomials
 pub mod Products
 pub mod Values
+pub mod MonomialVariables
 pub mod Substitutions
 pub mod Parts
+pub mod Variables
 pub mod Degrees
 pub mod Forms
+pub mod Modules
+pub mod ReducedLists

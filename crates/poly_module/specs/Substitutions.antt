@@ -3,7 +3,6 @@
 --   power Y x n                 the n-th power of x in the ring Y
 --   image Y xs i                the image of variable i: the i-th of xs, from 0, and 1 past its end
 --   monomial_value Y xs a       the product of the powers of the images xs to the exponents a
---   variable i                  the monomial that is the i-th variable, from 0
 --   variable_vector k i         the same as a polynomial
 --   position_vector k           the vector 1 at position 1, which moves positions up by one
 --   substitution k Y xs u       the value of u in the algebra Y, where the variables have the images xs
@@ -16,9 +15,10 @@ use Rattle.alg_core.specs.Rings.{Ring, Algebra, Homomorphism, Multiplicative}
 use Rattle.alg_core.specs.RingLaws as rings
 use Rattle.alg_core.specs.ModuleLaws as modules
 use Rattle.alg_core.specs.Fields.{FieldOn, scalars, scalar}
-use Rattle.alg_core.specs.Monomials.{Mon, monomials, mono, exponent, added, exponent_added, exponent_mul, exponent_mono, exponent_one, mon_ext, mono_mon}
+use Rattle.alg_core.specs.Monomials.{Mon, monomials, mono, exponent, added, exponent_added, exponent_mul, exponent_mono, exponent_one}
 use Rattle.alg_core.specs.Keys.{Key, key_same, keys}
 use Rattle.alg_core.specs.Vectors.{Vect, plus, zero_vector, scale}
+use Rattle.poly_module.specs.MonomialVariables.{variable, after_zeros, multiplicative_unique}
 use Rattle.poly_module.specs.Polynomials.{polynomials, polynomial_algebra, single_vector, one_vector, product, vector_ring, vector_algebra}
 use Rattle.poly_module.specs.Values.{module_of, value, value_single, value_homomorphism, homomorphism_linear, homomorphism_unique, homomorphism_multiplicative, value_after}
 
@@ -75,97 +75,6 @@ module _ {S : Type 0} (Y : Ring S) where
 
   pub monomial_value_mono : (xs : List S) (a : List ℕ) → monomial_value xs (mono a).0 ≡ monomial_value xs a
   monomial_value_mono xs a = monomial_value_ext xs _ a (exponent_mono a)
-
--- n zeros in front of a list of exponents
-after_zeros : ℕ → List ℕ → List ℕ
-after_zeros zero a = a
-after_zeros (suc n) a = 0 ∷ after_zeros n a
-
--- the i-th variable
-pub variable : ℕ → Mon
-variable i = mono (after_zeros i (1 ∷ []))
-
-exponent_after_zeros : (n : ℕ) (a b l : List ℕ) → ((i : ℕ) → exponent l i ≡ exponent a i + exponent b i) → (i : ℕ) → exponent (after_zeros n l) i ≡ exponent (after_zeros n a) i + exponent (after_zeros n b) i
-unfolding after_zeros
-exponent_after_zeros zero a b l e i = e i
-exponent_after_zeros (suc n) a b l e zero = refl
-exponent_after_zeros (suc n) a b l e (suc i) = exponent_after_zeros n a b l e i
-
-zeros_nothing : (n i : ℕ) → exponent (after_zeros n []) i ≡ 0
-unfolding after_zeros
-zeros_nothing zero i = refl
-zeros_nothing (suc n) zero = refl
-zeros_nothing (suc n) (suc i) = zeros_nothing n i
-
--- one variable's power and the rest
-mono_after_zeros : (n x : ℕ) (a : List ℕ) → mono (after_zeros n (x ∷ a)) ≡ monomials.◌·◌ (mono (after_zeros n (x ∷ []))) (mono (after_zeros (suc n) a))
-unfolding after_zeros
-mono_after_zeros n x a = mon_ext _ _ (λ i.
-    let p = exponent_mono (after_zeros n (x ∷ a)) i in
-    let q = exponent_mul (mono (after_zeros n (x ∷ []))) (mono (0 ∷ after_zeros n a)) i in
-    let r = exponent_mono (after_zeros n (x ∷ [])) i in
-    let s = exponent_mono (0 ∷ after_zeros n a) i in
-    let t = exponent_after_zeros n (x ∷ []) (0 ∷ a) (x ∷ a) split i in
-    let w = zero_inside n a i in
-    omega arith)
-  where
-    split : (i : ℕ) → exponent (x ∷ a) i ≡ exponent (x ∷ []) i + exponent (0 ∷ a) i
-    split zero = omega arith
-    split (suc i) = omega arith
-
-    zero_inside : (n : ℕ) (a : List ℕ) (i : ℕ) → exponent (after_zeros n (0 ∷ a)) i ≡ exponent (0 ∷ after_zeros n a) i
-    zero_inside zero a i = refl
-    zero_inside (suc n) a zero = refl
-    zero_inside (suc n) a (suc i) = zero_inside n a i
-
--- one factor more of a variable
-mono_variable_power : (n x : ℕ) → mono (after_zeros n (suc x ∷ [])) ≡ monomials.◌·◌ (variable n) (mono (after_zeros n (x ∷ [])))
-unfolding variable
-mono_variable_power n x = mon_ext _ _ (λ i.
-    let p = exponent_mono (after_zeros n (suc x ∷ [])) i in
-    let q = exponent_mul (mono (after_zeros n (1 ∷ []))) (mono (after_zeros n (x ∷ []))) i in
-    let r = exponent_mono (after_zeros n (1 ∷ [])) i in
-    let s = exponent_mono (after_zeros n (x ∷ [])) i in
-    let t = exponent_after_zeros n (1 ∷ []) (x ∷ []) (suc x ∷ []) split i in
-    omega arith)
-  where
-    split : (i : ℕ) → exponent (suc x ∷ []) i ≡ exponent (1 ∷ []) i + exponent (x ∷ []) i
-    split zero = omega arith
-    split (suc i) = omega arith
-
-mono_zeros : (n : ℕ) → mono (after_zeros n (0 ∷ [])) ≡ monomials.one
-mono_zeros n = mon_ext _ _ (λ i.
-    let p = exponent_mono (after_zeros n (0 ∷ [])) i in
-    let q = exponent_one i in
-    let r = exponent_after_zeros n [] [] (0 ∷ []) none i in
-    let s = zeros_nothing n i in
-    omega arith)
-  where
-    none : (i : ℕ) → exponent (0 ∷ []) i ≡ exponent [] i + exponent [] i
-    none zero = refl
-    none (suc i) = refl
-
-mono_zeros_nothing : (n : ℕ) → mono (after_zeros n []) ≡ monomials.one
-mono_zeros_nothing n = mon_ext _ _ (λ i.
-    let p = exponent_mono (after_zeros n []) i in
-    let q = exponent_one i in
-    let s = zeros_nothing n i in
-    omega arith)
-
-module _ {K S : Type 0} {R : Ring K} (Y : Algebra R S) where
-  module _ (f g : Mon → S) (hf : Multiplicative monomials Y f) (hg : Multiplicative monomials Y g) (e : (i : ℕ) → f (variable i) ≡ g (variable i)) where
-    agree_power : (n x : ℕ) → f (mono (after_zeros n (x ∷ []))) ≡ g (mono (after_zeros n (x ∷ [])))
-    agree_power n zero = ap f (mono_zeros n) ∙ hf.one ∙ sym (ap g (mono_zeros n) ∙ hg.one)
-    agree_power n (suc x) = ap f (mono_variable_power n x) ∙ hf.mul _ _ ∙ ap₂ Y.ring.◌*◌ (e n) (agree_power n x) ∙ sym (ap g (mono_variable_power n x) ∙ hg.mul _ _)
-
-    agree_exponents : (n : ℕ) (a : List ℕ) → f (mono (after_zeros n a)) ≡ g (mono (after_zeros n a))
-    agree_exponents n [] = ap f (mono_zeros_nothing n) ∙ hf.one ∙ sym (ap g (mono_zeros_nothing n) ∙ hg.one)
-    agree_exponents n (x ∷ a) = ap f (mono_after_zeros n x a) ∙ hf.mul _ _ ∙ ap₂ Y.ring.◌*◌ (agree_power n x) (agree_exponents (suc n) a) ∙ sym (ap g (mono_after_zeros n x a) ∙ hg.mul _ _)
-
-    -- functions that keep products of monomials agree where they agree on the variables
-    pub multiplicative_unique : (m : Mon) → f m ≡ g m
-    unfolding after_zeros
-    multiplicative_unique m = ap f (sym (mono_mon m)) ∙ agree_exponents 0 m.0 ∙ ap g (mono_mon m)
 
 module _ {S : Type 0} (Y : Ring S) where
   -- the value of a variable is its image
