@@ -1,5 +1,3 @@
-use Rattle.std.proofs.Common.{◌≡◌, ◌<◌, All, length, vec_len}
-use Rattle.alg_core.specs.Fields.{Has}
 use Rattle.invring_app.specs.Rows.{AreLong, AreValues}
 use Rattle.invring_app.proofs.basis.elimination.take_pivot.Given as goal
 

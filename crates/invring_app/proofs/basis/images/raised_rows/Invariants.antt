@@ -1,5 +1,4 @@
-use Rattle.std.proofs.Common.{◌≡◌, ◌+◌, ◌<◌, ◌≤◌, All, length, vec_len}
-use Rattle.alg_core.specs.Fields.{Has}
+use Rattle.std.proofs.Common.{◌≡◌, vec_len}
 use Rattle.invring_app.specs.Rows.{AreLong, AreValues}
 use Rattle.invring_app.proofs.basis.images.raised_rows.Given as goal
 
