@@ -1,7 +1,7 @@
 -- The degree of a place of a space, by its weights and shifts.
-use Rattle.std.proofs.Common.{◌≡◌, ℕ, zero, suc, ◌+◌, ◌*◌, ◌<◌, ◌≤◌, List, [], ◌∷◌, length, get_or, refl, sym, ap, ap₂, ◌∙◌, arith}
+use Rattle.std.proofs.Common.{◌≡◌, ℕ, zero, suc, ◌+◌, ◌*◌, ◌<◌, ◌≤◌, List, [], ◌∷◌, length, get_or, refl, ap, ap₂, ◌∙◌, arith}
 use Rattle.alg_core.specs.DpOrder.{weighted_degree}
-use Rattle.alg_core.specs.Monomials.{mono, exponent, exponent_mono}
+use Rattle.alg_core.specs.Monomials.{mono, exponent_mono}
 use Rattle.alg_core.specs.Keys.{Place, key}
 use Rattle.alg_core.specs.Spaces.{SpaceOver}
 use Rattle.alg_core.specs.ExponentLists.{Within}
