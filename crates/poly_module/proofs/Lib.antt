@@ -12,3 +12,5 @@ pub mod Factors
 pub mod ModuleElements
 pub mod KeyGrowth
 pub mod Reduced
+pub mod ExponentBounds
+pub mod PowerSteps

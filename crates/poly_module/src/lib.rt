@@ -8,6 +8,7 @@ mod merge;
 mod multiple;
 mod product;
 mod signs;
+mod substitution;
 mod vector;
 mod whole;
 
