@@ -7,3 +7,8 @@ pub mod Halves
 pub mod ModuleElements
 pub mod KeyGrowth
 pub mod Reduced
+pub mod SpanLaws
+pub mod Greedy
+pub mod EchelonLists
+pub mod Elimination
+pub mod Echelon

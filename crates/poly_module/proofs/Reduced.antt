@@ -25,10 +25,10 @@ module _ {E : Type 0} (k : FieldOn E) where
   zero = (scalars k).zero
 
   -- u less v
-  difference : Vect k → Vect k → Vect k
+  unfoldable pub difference : Vect k → Vect k → Vect k
   difference u v = plus k u (modules.minus (vectors k) v)
 
-  coef_difference : (u v : Vect k) (t : Key) → coef_at k (difference u v) t ≡ (scalars k).◌+◌ (coef_at k u t) ((scalars k).◌*◌ ((scalars k).neg (scalars k).one) (coef_at k v t))
+  pub coef_difference : (u v : Vect k) (t : Key) → coef_at k (difference u v) t ≡ (scalars k).◌+◌ (coef_at k u t) ((scalars k).◌*◌ ((scalars k).neg (scalars k).one) (coef_at k v t))
   unfolding difference coef_at plus
   coef_difference u v t = coef_add (scalars k) key_same u _ t ∙ ap ((scalars k).◌+◌ _) (ap (λ w. coef_at k w t) (modules.minus_is (vectors k) v) ∙ coef_act (scalars k) key_same _ v t)
 
@@ -36,7 +36,7 @@ module _ {E : Type 0} (k : FieldOn E) where
   unfolding difference
   subspace_difference U sub u v a b = sub.plus u _ a (subst U (sym (modules.minus_is (vectors k) v)) (sub.act _ v b))
 
-  difference_zero : (u v : Vect k) → difference u v ≡ zero_vector k → u ≡ v
+  pub difference_zero : (u v : Vect k) → difference u v ≡ zero_vector k → u ≡ v
   unfolding difference plus zero_vector
   difference_zero u v e = modules.eq_of_minus (vectors k) u v e
 

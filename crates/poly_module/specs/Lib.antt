@@ -10,3 +10,5 @@ pub mod Degrees
 pub mod Forms
 pub mod Modules
 pub mod ReducedLists
+pub mod Spans
+pub mod Echelons

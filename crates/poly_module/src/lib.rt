@@ -2,9 +2,19 @@
 //! substitution.
 #![tactic(auto)]
 
+mod degrees;
+mod greatest;
 mod merge;
+mod multiple;
+mod product;
 mod signs;
 mod vector;
+mod whole;
 
+pub use degrees::{degree, is_homogeneous};
+pub use greatest::lead;
 pub use merge::{add, sub};
+pub use multiple::{mul_term, scale};
+pub use product::mul;
 pub use vector::{Comb, Poly, Vector};
+pub use whole::make;
