@@ -12,3 +12,4 @@ pub mod Greedy
 pub mod EchelonLists
 pub mod Elimination
 pub mod Echelon
+pub mod CombinationLaws

@@ -12,3 +12,4 @@ pub mod Modules
 pub mod ReducedLists
 pub mod Spans
 pub mod Echelons
+pub mod Combinations
