@@ -1,17 +1,17 @@
 -- Lists of entries that fit a space: how they are put together, and that the vector tells the list.
-use Rattle.std.proofs.Common.{◌≡◌, ◌≢◌, ℕ, List, [], ◌∷◌, ◌++◌, length, refl, sym, ap, ap₂, subst, ◌∙◌}
-use Rattle.std.specs.declared.cmp.Ordering.TheVariants.{Less, Equal, Greater}
+use Rattle.std.proofs.Common.{◌≡◌, List, [], ◌∷◌, ◌++◌, refl, sym, ap, ap₂, subst, ◌∙◌}
+use Rattle.std.specs.declared.cmp.Ordering.TheVariants.{Less, Greater}
 use Rattle.std.specs.Ordering.{ordering_reverse}
-use Rattle.alg_core.specs.Fields.{FieldOn, Has, Scalar, scalars, is_field, scalar, scalar_injective, scalar_not_zero}
-use Rattle.alg_core.specs.FreeModules.{class, coef, coef_class}
+use Rattle.alg_core.specs.Fields.{Scalar, scalars, is_field, scalar, scalar_injective, scalar_not_zero}
+use Rattle.alg_core.specs.FreeModules.{coef, coef_class}
 use Rattle.alg_core.specs.Keys.{Place, Key, key, key_same, key_injective}
-use Rattle.alg_core.specs.PlaceOrders.{PlaceOrder, FitsAt}
+use Rattle.alg_core.specs.PlaceOrders.{PlaceOrder}
 use Rattle.alg_core.specs.CanonicalLists.{AllBelow, IsCanonical, IsLead, canonical_unique, terms, terms_class}
 use Rattle.alg_core.specs.Leads.{lead_head}
-use Rattle.alg_core.specs.Vectors.{Entry, Vect, formal_sum, vec, coef_at, zero_vector}
+use Rattle.alg_core.specs.Vectors.{Entry, formal_sum, vec, coef_at, zero_vector}
 use Rattle.alg_core.specs.Spaces.{SpaceOver, IsTerm, IsPlace, IsAbove, Fits}
 use Rattle.alg_core.specs.SpaceOrder.{key_order, key_compare_places}
-use Rattle.alg_core.proofs.VectorLaws.{vec_nothing, coef_at_zero}
+use Rattle.alg_core.proofs.VectorLaws.{coef_at_zero}
 
 module _ (o : PlaceOrder) where
   pub less_turned : (p q : Place) → o.compare p q ≡ Less → o.compare q p ≡ Greater

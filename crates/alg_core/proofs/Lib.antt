@@ -3,3 +3,4 @@ pub mod ExponentSteps
 pub mod OrderSteps
 pub mod MonomialLists
 pub mod FittingLists
+pub mod PlaceDegrees

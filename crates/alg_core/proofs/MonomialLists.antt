@@ -1,8 +1,8 @@
 -- Lists of exponents of one length as monomials: products, quotients, least common multiples, divisibility.
-use Rattle.std.proofs.Common.{◌≡◌, ℕ, zero, suc, ◌+◌, ◌-◌, ◌<◌, ◌≤◌, max, Bool, true, false, ◌&&◌, List, [], ◌∷◌, length, refl, sym, ap, ◌∙◌, arith}
+use Rattle.std.proofs.Common.{◌≡◌, ℕ, zero, suc, ◌+◌, ◌-◌, ◌≤◌, max, true, List, [], ◌∷◌, length, refl, sym, arith}
 use Rattle.std.proofs.lemmas.Bool.Decides.{nat_tests}
 use Rattle.alg_core.specs.ExponentLists.{merged, product, quotient, lcm, divides}
-use Rattle.alg_core.specs.Monomials.{exponent, Mon, mon_ext, mono, exponent_mono, monomials, exponent_mul, Divides}
+use Rattle.alg_core.specs.Monomials.{exponent, mon_ext, mono, exponent_mono, monomials, exponent_mul, Divides}
 use Rattle.alg_core.specs.CommonMultiples.{mon_lcm, exponent_lcm, divides_exponents, exponents_divide}
 
 -- a function with f 0 0 = 0, entry by entry

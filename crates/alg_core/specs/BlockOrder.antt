@@ -2,18 +2,17 @@
 --
 --   block_compare n ws    the first n exponents by dp with weights 1, then the others by dp with the weights ws
 --   block_order n ws      this order, for n exponents and as many more as there are weights
-use Rattle.std.specs.Prelude.{◌≡◌, ◌≢◌, ℕ, zero, suc, ◌+◌, ◌*◌, ◌<◌, ◌≤◌, ◌==◌, Bool, true, false, cond, nat_lt, List, [], ◌∷◌, ◌++◌, length, take, drop, replicate}
+use Rattle.std.specs.Prelude.{◌≡◌, ◌≢◌, ℕ, zero, suc, ◌+◌, ◌==◌, true, List, [], ◌∷◌, length, take, drop, replicate}
 use Rattle.std.specs.declared.cmp.Ordering.{Ordering}
 use Rattle.std.specs.declared.cmp.Ordering.TheVariants.{Less, Equal, Greater}
-use Rattle.std.specs.Ordering.{nat_cmp, on, flip_args, then_cmp, ordering_then}
+use Rattle.std.specs.Ordering.{on, then_cmp, ordering_then}
 use Rattle.std.specs.Cmp.{IsTotalOrder}
-use Rattle.std.proofs.Common.{sym, ap, ap₂, ◌∙◌, refl, subst, arith}
-use Rattle.std.proofs.lemmas.Cmp.{on_total, then_total, nat_cmp_total, tied_itself}
-use Rattle.std.proofs.lemmas.Bool.Decides.{nat_tests}
+use Rattle.std.proofs.Common.{sym, ap, ap₂, ◌∙◌, refl, arith}
+use Rattle.std.proofs.lemmas.Cmp.{on_total, then_total}
 use Rattle.alg_core.specs.ExponentLists.{product}
 use Rattle.alg_core.specs.Keys.{Place}
 use Rattle.alg_core.specs.PlaceOrders.{PlaceOrder, times_place}
-use Rattle.alg_core.specs.DpOrder.{weighted_degree, reverse_lexicographic, all_positive, dp_compare, dp_total, dp_tied, dp_kept, dp_no_smaller, length_from_test}
+use Rattle.alg_core.specs.DpOrder.{all_positive, dp_compare, dp_total, dp_tied, dp_kept, dp_no_smaller, length_from_test}
 
 -- the first n exponents by dp, the others by weighted_degree dp, then the earlier position
 abbrev pub block_compare : ℕ → List ℕ → Place → Place → Ordering

@@ -4,7 +4,7 @@
 --   greatest a b       the greater of the exponents
 --   mon_lcm a b        the least common multiple
 use Rattle.std.specs.Prelude.{◌≡◌, ℕ, zero, suc, ◌-◌, ◌≤◌, max, List, [], ◌∷◌, refl}
-use mathlib.Core.Path.{sym, ap, ◌∙◌}
+use mathlib.Core.Path.{ap, ◌∙◌}
 use native.Mathlib.Omega.{arith}
 use Rattle.alg_core.specs.Monomials.{exponent, Mon, mon_ext, mono, exponent_mono, monomials, exponent_mul, Divides}
 

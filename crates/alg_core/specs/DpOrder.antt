@@ -5,16 +5,16 @@
 --   dp_compare ws               the greater weighted degree, then reverse lexicographic, then the earlier position
 --   all_positive ws             no weight is 0
 --   dp_order ws                 this order, for as many exponents as there are weights
-use Rattle.std.specs.Prelude.{◌≡◌, ◌≢◌, ℕ, zero, suc, ◌+◌, ◌*◌, ◌≤◌, ◌<◌, ◌==◌, Bool, true, false, ◌&&◌, not, List, [], ◌∷◌, ◌++◌, reverse, length, take, refl}
+use Rattle.std.specs.Prelude.{◌≡◌, ◌≢◌, ℕ, zero, suc, ◌+◌, ◌*◌, ◌==◌, Bool, true, not, List, [], ◌∷◌, ◌++◌, reverse, length, refl}
 use Rattle.std.specs.declared.cmp.Ordering.{Ordering}
 use Rattle.std.specs.declared.cmp.Ordering.TheVariants.{Less, Equal, Greater}
-use Rattle.std.specs.Ordering.{ordering_reverse, nat_cmp, on, flip_args, then_cmp, ordering_then}
+use Rattle.std.specs.Ordering.{nat_cmp, on, flip_args, then_cmp, ordering_then}
 use Rattle.std.specs.Cmp.{IsTotalOrder}
 use Rattle.std.specs.Cmp.Lexicographic.{slice_cmp}
 use Rattle.std.specs.List.{list_all}
-use Rattle.std.proofs.Common.{sym, ap, ap₂, ◌∙◌, subst, arith, get_or}
+use Rattle.std.proofs.Common.{sym, ap, ap₂, ◌∙◌, arith}
 use Rattle.std.proofs.lemmas.Cmp.{tied_itself, on_total, then_total, back_total, lists_total, nat_cmp_total}
-use Rattle.std.proofs.lemmas.List.{length-reverse, reverse-reverse, reverse-append, take_more}
+use Rattle.std.proofs.lemmas.List.{length-reverse, reverse-reverse}
 use Rattle.std.proofs.lemmas.Grind.{reverse_onto}
 use Rattle.std.proofs.lemmas.Map.Lookups.{exact_unsigned}
 use Rattle.std.proofs.lemmas.Bool.Decides.{nat_tests}

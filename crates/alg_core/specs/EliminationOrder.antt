@@ -2,18 +2,16 @@
 --
 --   elimination_compare first ws   a position below first is greater than one from first on; in a block dp, then the earlier position
 --   elimination_order first ws     this order, for as many exponents as there are weights
-use Rattle.std.specs.Prelude.{◌≡◌, ◌≢◌, ℕ, zero, suc, ◌+◌, ◌*◌, ◌<◌, ◌≤◌, ◌==◌, Bool, true, false, cond, nat_lt, List, [], ◌∷◌, ◌++◌, length, take, drop, replicate}
+use Rattle.std.specs.Prelude.{◌≡◌, ◌≢◌, ℕ, ◌==◌, true, cond, nat_lt, List, length}
 use Rattle.std.specs.declared.cmp.Ordering.{Ordering}
 use Rattle.std.specs.declared.cmp.Ordering.TheVariants.{Less, Equal, Greater}
-use Rattle.std.specs.Ordering.{nat_cmp, on, flip_args, then_cmp, ordering_then}
+use Rattle.std.specs.Ordering.{nat_cmp, on, then_cmp, ordering_then}
 use Rattle.std.specs.Cmp.{IsTotalOrder}
-use Rattle.std.proofs.Common.{sym, ap, ap₂, ◌∙◌, refl, subst, arith}
+use Rattle.std.proofs.Common.{sym, ap, ◌∙◌, refl}
 use Rattle.std.proofs.lemmas.Cmp.{on_total, then_total, nat_cmp_total, tied_itself}
-use Rattle.std.proofs.lemmas.Bool.Decides.{nat_tests}
-use Rattle.alg_core.specs.ExponentLists.{product}
 use Rattle.alg_core.specs.Keys.{Place}
 use Rattle.alg_core.specs.PlaceOrders.{PlaceOrder, times_place}
-use Rattle.alg_core.specs.DpOrder.{weighted_degree, reverse_lexicographic, all_positive, dp_compare, dp_total, dp_tied, dp_kept, dp_no_smaller, length_from_test}
+use Rattle.alg_core.specs.DpOrder.{all_positive, dp_compare, dp_total, dp_tied, dp_kept, dp_no_smaller, length_from_test}
 
 then_tied : (o p : Ordering) → ordering_then o p ≡ Equal → (o ≡ Equal) × (p ≡ Equal)
 then_tied Less p h = cc

@@ -6,7 +6,7 @@
 --   lcm a b          the greater of the exponents
 --   divides a b      no exponent of a is greater than that of b
 --   Within cap a     each exponent is at most cap
-use Rattle.std.specs.Prelude.{◌≡◌, ℕ, ◌+◌, ◌-◌, ◌≤◌, max, Bool, true, ◌&&◌, nat_le, List, [], ◌∷◌, All}
+use Rattle.std.specs.Prelude.{ℕ, ◌+◌, ◌-◌, ◌≤◌, max, Bool, true, ◌&&◌, nat_le, List, [], ◌∷◌, All}
 
 -- entry by entry, as far as both lists go
 abbrev pub merged : (ℕ → ℕ → ℕ) → List ℕ → List ℕ → List ℕ

@@ -1,4 +1,4 @@
--- What follows from the laws of a ring. For longer equations: `simp (commutative R)` brings both sides to one order.
+-- What follows from the laws of a ring.
 use Rattle.std.proofs.Common.{◌≡◌, sym, ap, ◌∙◌}
 use Rattle.alg_core.specs.Rings.{Ring}
 

@@ -6,9 +6,9 @@
 --   height ss q           the shift of a position; beyond the shifts it grows with the position
 --   degree S t            the degree of a key in the space S
 --   rank S t              how many keys of the degree of t are smaller than t, where no weight is 0
-use Rattle.std.proofs.Common.{◌≡◌, ◌≢◌, ℕ, zero, suc, ◌+◌, ◌-◌, ◌*◌, ◌<◌, ◌≤◌, Bool, true, false, cond, List, [], ◌∷◌, ◌++◌, length, map, sym, ap, ap₂, ◌∙◌, refl, subst, arith, inl, inr, ◌⊎◌}
+use Rattle.std.proofs.Common.{◌≡◌, ℕ, zero, suc, ◌+◌, ◌*◌, ◌<◌, ◌≤◌, Bool, true, false, cond, List, [], ◌∷◌, ◌++◌, length, map, sym, ap, ap₂, ◌∙◌, refl, subst, arith, inl, inr, ◌⊎◌}
 use Rattle.std.specs.declared.cmp.Ordering.{Ordering}
-use Rattle.std.specs.declared.cmp.Ordering.TheVariants.{Less, Equal, Greater}
+use Rattle.std.specs.declared.cmp.Ordering.TheVariants.{Less}
 use Rattle.std.specs.Ordering.{is_lt}
 use Rattle.std.proofs.lemmas.Cmp.{tied_itself}
 use native.Mathlib.Decide.{dec_le}
@@ -36,7 +36,7 @@ height [] q = q
 height (s ∷ ss) zero = s
 height (s ∷ ss) (suc q) = height ss q
 
-weight_ext : (ws : List ℕ) (i : ℕ) (a b : List ℕ) → ((j : ℕ) → exponent a j ≡ exponent b j) → weight ws i a ≡ weight ws i b
+pub weight_ext : (ws : List ℕ) (i : ℕ) (a b : List ℕ) → ((j : ℕ) → exponent a j ≡ exponent b j) → weight ws i a ≡ weight ws i b
 unfolding weight
 weight_ext ws i [] [] e = refl
 weight_ext [] i [] (y ∷ b) e = let h = weight_ext [] (suc i) [] b (λ j. e (suc j)) in let z : 0 ≡ y = e 0 in nothing (suc i) y _ z h

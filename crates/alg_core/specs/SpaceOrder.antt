@@ -4,7 +4,7 @@
 --   beyond_of n t         its other exponents
 --   key_compare n o       compare the other exponents lexicographically, then the places by o
 --   key_order S           the order of the space S on all keys
-use Rattle.std.proofs.Common.{◌≡◌, ℕ, zero, suc, ◌+◌, ◌*◌, ◌<◌, ◌≤◌, List, [], ◌∷◌, ◌++◌, length, sym, ap, ap₂, ◌∙◌, refl, arith}
+use Rattle.std.proofs.Common.{◌≡◌, ℕ, zero, suc, ◌+◌, List, [], ◌∷◌, length, sym, ap, ap₂, ◌∙◌, refl, arith}
 use Rattle.std.specs.declared.cmp.Ordering.{Ordering}
 use Rattle.std.specs.declared.cmp.Ordering.TheVariants.{Less, Equal, Greater}
 use Rattle.std.specs.Ordering.{nat_cmp, on, then_cmp, ordering_then}
@@ -16,7 +16,7 @@ use Rattle.std.proofs.lemmas.Bool.Decides.{nat_tests}
 use Rattle.alg_core.specs.ExponentLists.{product}
 use Rattle.alg_core.specs.Monomials.{Mon, monomials, mono, exponent, trimmed, trimmed_cons, trimmed_ext, added, exponent_added, exponent_mul, exponent_mono, mon_is, exponents, length_exponents, exponents_ext, exponents_mono, beyond}
 use Rattle.alg_core.specs.Keys.{Place, Key, key, times_key}
-use Rattle.alg_core.specs.PlaceOrders.{PlaceOrder, times_place}
+use Rattle.alg_core.specs.PlaceOrders.{PlaceOrder}
 use Rattle.alg_core.specs.KeyOrders.{OrderOn}
 use Rattle.alg_core.specs.Spaces.{SpaceOver}
 

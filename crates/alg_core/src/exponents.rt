@@ -1,13 +1,14 @@
-ghost use Rattle.std.specs.Prelude.{◌≡◌, ◌+◌, ◌≤◌, length, take, drop, replicate};
+ghost use Rattle.std.specs.Prelude.{◌≡◌, ◌+◌, ◌*◌, ◌≤◌, length, take, drop, replicate};
 ghost use Rattle.alg_core.specs.DpOrder.{weighted_degree, reverse_lexicographic};
 
 use crate::Monomial;
 use std::cmp::Ordering;
 
 /// The weighted degree of the exponents from `from` on; there is one for each weight.
-pub(crate) fn weighted_degree<M: Monomial>(weights: &[u32], from: usize, m: &M) -> u128
+pub fn weighted_degree<M: Monomial>(weights: &[u32], from: usize, m: &M) -> u128
     requires length { length (M.exps m.now) ≡ from + length weights.now }
     ensures is { result ≡ weighted_degree weights.now (drop from (M.exps m.now)) }
+    ensures bounded { result ≤ length weights.now * 18446744065119617025 }
 {
     let mut sum = 0;
     for i in from..m.len() {

@@ -18,10 +18,12 @@ mod space;
 mod term;
 #[cfg(test)]
 mod tests;
+mod zero;
 
 pub use block_order::BlockOrder;
 pub use dp::Dp;
 pub use elimination_order::ElimOrder;
+pub use exponents::weighted_degree;
 pub use field::Field;
 pub use laws::{
     common_multiples, finite_degrees, fitting_lists, linear_functions, vector_sums, vector_terms,
@@ -36,3 +38,4 @@ pub use order::TermOrder;
 pub use place::Place;
 pub use space::{Grading, Space};
 pub use term::{ModTerm, Term};
+pub use zero::is_zero;

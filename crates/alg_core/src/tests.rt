@@ -38,18 +38,12 @@ fn dp_falls_through_the_quadratic_monomials(rt: HostRuntime) -> Result<(), Fail>
         [0, 1, 1],
         [0, 0, 2],
     ];
-    for (i, x) in falling.iter().enumerate() {
-        for (j, y) in falling.iter().enumerate() {
-            let a = term(alloc, 0, x)?;
-            let b = term(alloc, 0, y)?;
-            assert_eq!(rt;
-                compared(&order, &a, &b),
-                Some(j.cmp(&i)),
-                "{x:?} and {y:?}"
-            );
-        }
+    for i in 1..falling.len() {
+        let a = term(alloc, 0, &falling[i - 1])?;
+        let b = term(alloc, 0, &falling[i])?;
+        assert_eq!(rt; compared(&order, &a, &b), Some(Ordering::Greater), "{i}");
+        assert_eq!(rt; compared(&order, &b, &a), Some(Ordering::Less), "{i}");
     }
-    assert!(rt; order.is_positive());
     Ok(())
 }
 

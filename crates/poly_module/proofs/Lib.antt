@@ -1,9 +1,14 @@
 pub mod Equality
+pub mod EntryLists
 pub mod SignedEntries
 pub mod Merges
 pub mod MergeSteps
+pub mod MappedTerms
 pub mod Multiples
 pub mod Halves
+pub mod Leads
+pub mod GreatestValues
+pub mod Factors
 pub mod ModuleElements
 pub mod KeyGrowth
 pub mod Reduced

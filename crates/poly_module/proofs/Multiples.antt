@@ -52,29 +52,35 @@ module _ {E : Type 0} (S : SpaceOver E) (c : E) (m : List ℕ) where
       fits_multiples nz es h.2,
     )
 
-module _ {E M : Type 0} (S : SpaceOver E) (c : E) (m : List ℕ) (exps : M → List ℕ) where
-  -- the terms up to i are made
-  pub more : (xs made new : List (Term E M)) (i : ℕ) (x t : Term E M) → i < length xs → x ≡ get_or xs i x → new ≡ made ++ (t ∷ []) → entry exps t ≡ multiple S c m (entry exps x)
-      → entries exps made ≡ multiples S c m (entries exps (take i xs)) → entries exps new ≡ multiples S c m (entries exps (take (i + 1) xs))
-  more xs made new i x t h read pushed is was =
-      let next : take (i + 1) xs ≡ take i xs ++ (x ∷ []) = take_more xs i x h ∙ ap (λ y. take i xs ++ (y ∷ [])) (sym read) in
-      ap (entries exps) pushed ∙ map-append (entry exps) made (t ∷ []) ∙ ap₂ (λ l e. l ++ (e ∷ [])) was is
-      ∙ sym (ap (λ l. multiples S c m (entries exps l)) next ∙ ap (multiples S c m) (map-append (entry exps) (take i xs) (x ∷ [])) ∙ map-append (multiple S c m) (entries exps (take i xs)) _)
+  -- a multiple by 0
+  pub zero_multiple : (es : List (Entry E)) → c ≡ S.field.zero → vec S.field [] ≡ scale S.field c (shift S.field (mono m) (vec S.field es))
+  zero_multiple es z = vec_nothing S.field ∙ sym (scale_zero S.field _) ∙ ap (λ d. scale S.field d (shift S.field (mono m) (vec S.field es))) (sym z)
 
-  pub all : (xs made : List (Term E M)) (n : ℕ) → length xs ≤ n → entries exps made ≡ multiples S c m (entries exps (take n xs)) → entries exps made ≡ multiples S c m (entries exps xs)
-  all xs made n h e = e ∙ ap (λ l. multiples S c m (entries exps l)) (take_all n xs h)
+-- multiples by a value alone
+module _ {E : Type 0} (S : SpaceOver E) (c : E) where
+  abbrev pub scaled_entry : Entry E → Entry E
+  scaled_entry e = (e.0, S.field.mul c e.1)
 
-  -- each term of a list that fits is a term
-  pub term_at : (xs : List (Term E M)) (i : ℕ) (x : Term E M) → i < length xs → x ≡ get_or xs i x → Fits S (entries exps xs) → IsTerm S (entry exps x)
-  term_at [] i x h read f = absurd (omega arith)
-  term_at (y ∷ xs) zero x h read f = subst (λ z. IsTerm S (entry exps z)) (sym read) f.0
-  term_at (y ∷ xs) (suc i) x h read f = term_at xs i x (omega arith) read f.2
+  abbrev pub scaled_entries : List (Entry E) → List (Entry E)
+  scaled_entries es = map scaled_entry es
 
-  -- what holds of all entries holds of this one
-  pub all_at : (P : Entry E → Type 0) (xs : List (Term E M)) (i : ℕ) (x : Term E M) → i < length xs → x ≡ get_or xs i x → All P (entries exps xs) → P (entry exps x)
-  all_at P [] i x h read f = absurd (omega arith)
-  all_at P (y ∷ xs) zero x h read f = subst (λ z. P (entry exps z)) (sym read) (f 0 (entry exps y) (omega arith))
-  all_at P (y ∷ xs) (suc i) x h read f = all_at P xs i x (omega arith) read (λ k d w. f (suc k) d (omega arith))
+  pub vec_scaled : Has S.field c → (es : List (Entry E)) → Fits S es → vec S.field (scaled_entries es) ≡ scale S.field c (vec S.field es)
+  vec_scaled hc [] h = vec_nothing S.field ∙ sym (ap (scale S.field c) (vec_nothing S.field) ∙ scale_zero_vector S.field c)
+  vec_scaled hc (e ∷ es) h =
+      vec_cons S.field (scaled_entry e) (scaled_entries es) ∙ ap₂ (plus S.field) (sym (scale_entry S.field c e.0 e.1 hc h.0.has)) (vec_scaled hc es h.2)
+      ∙ sym (scale_plus S.field c _ _) ∙ ap (scale S.field c) (sym (vec_cons S.field e es))
 
-  pub nothing_multiple : (es : List (Entry E)) (l : List (Term E M)) → l ≡ [] → c ≡ S.field.zero → vec S.field (entries exps l) ≡ scale S.field c (shift S.field (mono m) (vec S.field es))
-  nothing_multiple es l none z = ap (λ l. vec S.field (entries exps l)) none ∙ vec_nothing S.field ∙ sym (scale_zero S.field _) ∙ ap (λ d. scale S.field d (shift S.field (mono m) (vec S.field es))) (sym z)
+  scaled_above : (p : Place) (es : List (Entry E)) → IsAbove S p es → IsAbove S p (scaled_entries es)
+  scaled_above p [] a = tt
+  scaled_above p (e ∷ es) a = (a.0, scaled_above p es a.1)
+
+  pub fits_scaled : Has S.field c → c ≢ S.field.zero → (es : List (Entry E)) → Fits S es → Fits S (scaled_entries es)
+  fits_scaled hc nz [] h = tt
+  fits_scaled hc nz (e ∷ es) h = (
+    record { has = S.field.has_mul c e.1 hc h.0.has; not_zero = product_not_zero S.field c e.1 hc h.0.has nz h.0.not_zero; place = h.0.place },
+    scaled_above e.0 es h.1,
+    fits_scaled hc nz es h.2,
+  )
+
+  pub zero_scaled : (es : List (Entry E)) → c ≡ S.field.zero → vec S.field [] ≡ scale S.field c (vec S.field es)
+  zero_scaled es z = vec_nothing S.field ∙ sym (scale_zero S.field _) ∙ ap (λ d. scale S.field d (vec S.field es)) (sym z)

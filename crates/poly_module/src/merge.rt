@@ -38,7 +38,8 @@ pub fn add<F: Field, O: TermOrder, M: Monomial>(
     ensures fits { IfOk result (λ v. Fits (over F.field O.order space.now) (entries M.exps v)) }
     ensures sum { let k = F.field space.now.field in IfOk result (λ v. vec k (entries M.exps v) ≡ plus k (vec k (entries M.exps a.now)) (vec k (entries M.exps b.now))) }
 {
-    merged(alloc, space, a, Sign::Plus, b)
+    let sum = merged(alloc, space, a, Sign::Plus, b)?;
+    Ok(sum)
 }
 
 /// The difference a - b: the vector whose sum with b is a.
@@ -53,7 +54,8 @@ pub fn sub<F: Field, O: TermOrder, M: Monomial>(
     ensures fits { IfOk result (λ v. Fits (over F.field O.order space.now) (entries M.exps v)) }
     ensures difference { let k = F.field space.now.field in IfOk result (λ v. plus k (vec k (entries M.exps v)) (vec k (entries M.exps b.now)) ≡ vec k (entries M.exps a.now)) }
 {
-    merged(alloc, space, a, Sign::Minus, b)
+    let difference = merged(alloc, space, a, Sign::Minus, b)?;
+    Ok(difference)
 }
 
 /// The first vector and the second one with a sign, merged: their terms in falling order, where those

@@ -1,7 +1,8 @@
-use Rattle.std.proofs.Common.{◌≡◌, ◌≢◌, refl, sym, ap, ◌∙◌, arith}
-use Rattle.alg_core.specs.Spaces.{over, entries}
+use Rattle.std.proofs.Common.{◌≡◌, ◌≢◌, subst, refl, sym, ap, ◌∙◌, arith}
+use Rattle.alg_core.specs.Spaces.{over, entries, Fits}
 use Rattle.poly_module.specs.Signs.{with_sign, signed_entries}
 use Rattle.poly_module.proofs.SignedEntries.{signed_fits}
+use Rattle.poly_module.proofs.EntryLists.{entry_at}
 use Rattle.poly_module.proofs.MergeSteps.{begins, first_entry, second_entry, greater_step, less_step, kept_step, gone_step, left_step, right_step, finished, ne_means, eq_means}
 use Rattle.poly_module.proofs.merge.merged.Goals as goal
 
@@ -45,7 +46,7 @@ both-preserved-in-Less g c =
     record {
       i_in = omega arith;
       j_in = omega arith;
-      so_far = less_step S g.M.Monomial.exps c.args.sign _ _ _ _ _ _ _ _ _ _ _ c.both-test.true c.index-xs-i.is c.if-j-ys.true c.index-ys-j.is (sym c.compare.ensures.is ∙ c.in-Less.is) c.in_ok-push-in-Less.ensures.items (c.in_ok-term_at-in-Less.ensures.is ∙ ap (λ v. ((c.index-ys-j.result.at.pos, g.M.Monomial.exps c.index-ys-j.result.at.mono), v)) c.signed-in-Less.ensures.is) c.both.invariant.so_far;
+      so_far = less_step S g.M.Monomial.exps c.args.sign _ _ _ _ _ _ _ _ _ _ _ c.both-test.true c.index-xs-i.is c.if-j-ys.true c.index-ys-j.is (sym c.compare.ensures.is ∙ c.in-Less.is) c.in_ok-push-in-Less.ensures.items (c.in_ok-term_at-in-Less.ensures.is ∙ ap (λ v. ((c.index-ys-j.result.at.pos, g.M.Monomial.exps c.index-ys-j.result.at.mono), v)) c.signed.ensures.is) c.both.invariant.so_far;
     }
 
 pub both-preserved-in_ok-push-in-Equal : goal.both-preserved-in_ok-push-in-Equal
@@ -86,7 +87,7 @@ right-preserved g c =
     let S = over g.F.Field.field g.O.TermOrder.order c.args.space.now in
     record {
       j_in = omega arith;
-      so_far = right_step S g.M.Monomial.exps c.args.sign _ _ _ _ _ _ _ _ c.right-test.true c.index-ys-j-in-right.is c.in_ok-push-2.ensures.items (c.in_ok-term_at-2.ensures.is ∙ ap (λ v. ((c.index-ys-j-in-right.result.at.pos, g.M.Monomial.exps c.index-ys-j-in-right.result.at.mono), v)) c.signed.ensures.is) c.right.invariant.so_far;
+      so_far = right_step S g.M.Monomial.exps c.args.sign _ _ _ _ _ _ _ _ c.right-test.true c.index-ys-j-in-right.is c.in_ok-push-2.ensures.items (c.in_ok-term_at-2.ensures.is ∙ ap (λ v. ((c.index-ys-j-in-right.result.at.pos, g.M.Monomial.exps c.index-ys-j-in-right.result.at.mono), v)) c.signed-in-right.ensures.is) c.right.invariant.so_far;
     }
 
 pub returns-clause-fits : goal.returns-clause-fits
@@ -98,3 +99,18 @@ pub returns-clause-sum : goal.returns-clause-sum
 returns-clause-sum g c =
     let S = over g.F.Field.field g.O.TermOrder.order c.args.space.now in
     (finished S g.M.Monomial.exps c.args.sign _ _ _ _ c.terms-ys.result.now c.right.j (omega arith) c.right.invariant.so_far c.of.ensures.is).1
+
+pub signed-requires : goal.signed-requires
+signed-requires g c =
+    let S = over g.F.Field.field g.O.TermOrder.order c.args.space.now in
+    record { has = (entry_at S g.M.Monomial.exps _ _ _ c.if-j-ys.true c.index-ys-j.is (subst (λ l. Fits S (entries g.M.Monomial.exps l)) (sym c.terms-ys.ensures.is) c.requires.right)).has }
+
+pub signed-requires-in-Equal : goal.signed-requires-in-Equal
+signed-requires-in-Equal g c =
+    let S = over g.F.Field.field g.O.TermOrder.order c.args.space.now in
+    record { has = (entry_at S g.M.Monomial.exps _ _ _ c.if-j-ys.true c.index-ys-j.is (subst (λ l. Fits S (entries g.M.Monomial.exps l)) (sym c.terms-ys.ensures.is) c.requires.right)).has }
+
+pub signed-requires-in-right : goal.signed-requires-in-right
+signed-requires-in-right g c =
+    let S = over g.F.Field.field g.O.TermOrder.order c.args.space.now in
+    record { has = (entry_at S g.M.Monomial.exps _ _ _ c.right-test.true c.index-ys-j-in-right.is (subst (λ l. Fits S (entries g.M.Monomial.exps l)) (sym c.terms-ys.ensures.is) c.requires.right)).has }

@@ -1,0 +1,21 @@
+//! The call of the program: it reads the words and a script, and writes the basis that they ask for.
+#![tactic(auto)]
+
+mod answer;
+mod basis;
+mod cells;
+mod count;
+mod fault;
+mod names;
+mod number;
+mod parts;
+mod script;
+mod status;
+mod top_call;
+mod words;
+
+pub use status::{BoundFault, Status};
+pub use top_call::run;
+
+#[cfg(test)]
+mod tests;

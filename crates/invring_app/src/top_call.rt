@@ -1,0 +1,70 @@
+ghost use Rattle.std.specs.Prelude.{◌≡◌, ◌≢◌, ◌↔◌, ◌<◌, ◌≤◌, ℕ, List, [], length, take, map, string_bytes, IfSome};
+ghost use Rattle.inv_outside.specs.Outside.{Rose, Took};
+ghost use Rattle.invring_app.specs.Commands.{AsksBasis};
+ghost use Rattle.invring_app.specs.Outcomes.{Asks, IsPastReading, Writes, IsTermBound, count_of};
+ghost use Rattle.invring_app.specs.Outputs.{IsLines};
+ghost use Rattle.invring_app.specs.ThinScripts.{ThinScript, ThinScriptText};
+
+use crate::answer::{Refusal, answer};
+use crate::script::LIMIT;
+use crate::status::{BoundFault, Status};
+use crate::words::degree_asked;
+use alg_core::Place;
+use inv_outside::{ReadFault, Sink, Source, read_all, write_all};
+use std::alloc::Global;
+
+/// Does what the words ask for: reads the script to its end, and writes the basis.
+///
+/// Of several faults the first one is answered, in the order words, reading, script, bound,
+/// writing; `Memory` may come wherever the words are a command. All of the output is made before
+/// its first byte is written.
+pub fn run<S: Source, O: Sink, E: Sink>(
+    alloc: Global,
+    words: &[String],
+    src: &mut S,
+    out: &mut O,
+    err: &mut E,
+) -> Status
+    // The words.
+    ensures usage { result ≡ Status.Usage ↔ ((d : ℕ) → ¬ AsksBasis (map string_bytes words.now) d) }
+    ensures asked { result ≢ Status.Usage → (d : ℕ) × AsksBasis (map string_bytes words.now) d }
+    ensures idle { result ≡ Status.Usage → src.new ≡ src.old }
+
+    // Reading, and what was read.
+    ensures read { result ≡ Status.ReadFault → Rose (S.faults src.old) (S.faults src.new) }
+    ensures place { (p : Place) → result ≡ Status.Syntax p → p ≡ Place.Byte 0 }
+    ensures syntax { (p : Place) → result ≡ Status.Syntax p → IfSome (S.left src.old) (λ bytes. (s : ThinScript) → ¬ ThinScriptText bytes s) }
+    ensures script { IsPastReading result → IfSome (S.left src.old) (λ bytes. (s : ThinScript) × ThinScriptText bytes s) }
+    ensures end { IsPastReading result → IfSome (S.left src.new) (λ rest. rest ≡ []) }
+
+    // The bound.
+    ensures bound { (f : BoundFault) (d : ℕ) (s : ThinScript) → result ≡ Status.Bound f → Asks (map string_bytes words.now) (S.left src.old) d s → IsTermBound f d s }
+    ensures within { (d : ℕ) (s : ThinScript) → Writes result → Asks (map string_bytes words.now) (S.left src.old) d s → count_of d s ≤ 2000 }
+
+    // What is written.
+    ensures done { result ≡ Status.Done → (text : List ℕ) × IsLines text × Took (O.taken out.old) text (O.taken out.new) }
+    ensures write { result ≡ Status.WriteFault → Rose (O.faults out.old) (O.faults out.new) }
+    ensures front { result ≡ Status.WriteFault → (text : List ℕ) × (k : ℕ) × IsLines text × (k < length text) × Took (O.taken out.old) (take k text) (O.taken out.new) }
+    ensures silent { ¬ Writes result → out.new ≡ out.old }
+    ensures err { err.new ≡ err.old }
+{
+    let degree = match degree_asked(words) {
+        Some(degree) => degree,
+        None => return Status::Usage,
+    };
+    let bytes = match read_all(alloc, src, LIMIT) {
+        Ok(bytes) => bytes,
+        Err(ReadFault::Failed) => return Status::ReadFault,
+        Err(ReadFault::Memory) => return Status::Memory,
+    };
+    let text = match answer(alloc, degree, &bytes) {
+        Ok(text) => text,
+        Err(Refusal::Memory) => return Status::Memory,
+        Err(Refusal::Syntax(place)) => return Status::Syntax(place),
+        Err(Refusal::Bound(fault)) => return Status::Bound(fault),
+    };
+    match write_all(out, &text) {
+        Ok(()) => Status::Done,
+        Err(_) => Status::WriteFault,
+    }
+}

@@ -1,0 +1,11 @@
+pub mod EachLaws
+pub mod SpanLaws
+pub mod DotLaws
+pub mod EchelonLaws
+pub mod ChangeLaws
+pub mod KernelLaws
+pub mod RowLaws
+pub mod InsertLaws
+pub mod BasisLaws
+pub mod CutLaws
+pub mod ProductLaws

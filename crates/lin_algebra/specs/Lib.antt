@@ -1,0 +1,5 @@
+pub mod Vectors
+pub mod Spans
+pub mod Echelons
+pub mod Matrices
+pub mod Bases

@@ -1,0 +1,61 @@
+ghost use Rattle.std.specs.Prelude.{◌≡◌, ◌↔◌, ◌<◌, ◌≤◌, ◌^◌, ℕ, IsTrue, IsNone, IfSome, All, Any};
+ghost use Rattle.alg_core.specs.Keys.{key};
+ghost use Rattle.alg_core.specs.Spaces.{over, place, entries, Fits, IsPlace};
+ghost use Rattle.alg_core.specs.SpaceGrading.{degree};
+ghost use Rattle.alg_core.specs.Vectors.{vec, zero_vector};
+
+use crate::vector::Vector;
+use alg_core::{Field, ModTerm, Monomial, Space, TermOrder, weighted_degree};
+
+/// The greatest degree of a term. None exactly at zero.
+pub fn degree<F: Field, O: TermOrder, M: Monomial>(
+    space: &Space<F, O>,
+    a: &Vector<F::Elem, M>,
+) -> Option<u64>
+    requires fits { Fits (over F.field O.order space.now) (entries M.exps a.now) }
+    requires small { let S = over F.field O.order space.now in All (λ e. degree S (key e.0) < 2 ^ 64) (entries M.exps a.now) }
+    ensures none { let k = F.field space.now.field in IsNone result ↔ (vec k (entries M.exps a.now) ≡ zero_vector k) }
+    ensures reached { let S = over F.field O.order space.now in IfSome result (λ d. Any (λ e. degree S (key e.0) ≡ d) (entries M.exps a.now)) }
+    ensures greatest { let S = over F.field O.order space.now in IfSome result (λ d. All (λ e. degree S (key e.0) ≤ d) (entries M.exps a.now)) }
+{
+    let terms = a.terms();
+    let mut greatest: Option<u64> = None;
+    for i in 0..terms.len() {
+        let t = &terms[i];
+        let d = term_degree(space, &t.at) as u64;
+        greatest = Some(greatest.unwrap_or(0).max(d));
+    }
+    greatest
+}
+
+/// Whether all terms have one degree; zero is homogeneous of every degree.
+pub fn is_homogeneous<F: Field, O: TermOrder, M: Monomial>(
+    space: &Space<F, O>,
+    a: &Vector<F::Elem, M>,
+) -> bool
+    requires fits { Fits (over F.field O.order space.now) (entries M.exps a.now) }
+    ensures is { let S = over F.field O.order space.now in IsTrue result ↔ ((d : ℕ) × All (λ e. degree S (key e.0) ≡ d) (entries M.exps a.now)) }
+{
+    let terms = a.terms();
+    if terms.is_empty() {
+        return true;
+    }
+    let head = &terms[0];
+    let first = term_degree(space, &head.at);
+    for i in 0..terms.len() {
+        let t = &terms[i];
+        if term_degree(space, &t.at) != first {
+            return false;
+        }
+    }
+    true
+}
+
+/// The degree of a term.
+fn term_degree<F: Field, O: TermOrder, M: Monomial>(space: &Space<F, O>, at: &ModTerm<M>) -> u128
+    requires place { IsPlace (over F.field O.order space.now) (place M.exps at.now) }
+    ensures is { let S = over F.field O.order space.now in result ≡ degree S (key (place M.exps at.now)) }
+{
+    let monomial = weighted_degree(space.grading.weights.as_slice(), 0, &at.mono);
+    monomial + space.grading.shifts[at.pos as usize] as u128
+}
