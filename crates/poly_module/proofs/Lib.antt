@@ -14,3 +14,9 @@ pub mod KeyGrowth
 pub mod Reduced
 pub mod ExponentBounds
 pub mod PowerSteps
+pub mod SpanLaws
+pub mod Greedy
+pub mod EchelonLists
+pub mod Elimination
+pub mod Echelon
+pub mod CombinationLaws

@@ -53,3 +53,20 @@ module _ {E M : Type 0} (S : SpaceOver E) (exps : M → List ℕ) where
       → vec S.field (entries exps next) ≡ product S.field (vec S.field (entries exps image)) (vec S.field (entries exps before))
       → vec S.field (entries exps next) ≡ power (vector_ring S.field) (vec S.field (entries exps image)) (suc n)
   power_more n image before next of e = e ∙ ap (product S.field (vec S.field (entries exps image))) of.1 ∙ sym (ring_product S.field _ _)
+
+  -- the list of powers, from the 0th and one by one
+  pub powers_first : (x : Vect S.field) (old new : List (List (Term E M))) (p : List (Term E M)) → old ≡ [] → new ≡ old ++ (p ∷ []) → Fits S (entries exps p) → vec S.field (entries exps p) ≡ one_vector S.field
+      → IsPowers S exps x new × (length new ≡ 1)
+  powers_first x [] new p none pushed fits one =
+      (all_at_push (λ (n : ℕ) (q : List (Term E M)). IsOf S exps (power (vector_ring S.field) x n) q) [] new p pushed (all_at_none _ [] refl) (fits, one ∙ sym (ring_one S.field)), ap length pushed)
+  powers_first x (y ∷ old) new p none pushed fits one = absurd cc
+
+  pub powers_next : (x : Vect S.field) (n : ℕ) (old new : List (List (Term E M))) (p : List (Term E M)) → new ≡ old ++ (p ∷ []) → IsPowers S exps x old × (length old ≡ n + 1)
+      → Fits S (entries exps p) → vec S.field (entries exps p) ≡ power (vector_ring S.field) x (suc n)
+      → IsPowers S exps x new × (length new ≡ n + 1 + 1)
+  powers_next x n old new p pushed was fits is =
+      let long : length new ≡ length old + 1 = ap length pushed ∙ length_append old (p ∷ []) in
+      (all_at_push (λ (m : ℕ) (q : List (Term E M)). IsOf S exps (power (vector_ring S.field) x m) q) old new p pushed was.0 (fits, is ∙ ap (power (vector_ring S.field) x) (omega (arith, was.1))), omega (arith, was.1))
+
+  pub powers_read : (x : Vect S.field) (ps : List (List (Term E M))) (n : ℕ) (p : List (Term E M)) → n < length ps → p ≡ get_or ps n p → IsPowers S exps x ps → IsOf S exps (power (vector_ring S.field) x n) p
+  powers_read x ps n p w read h = all_at_read (λ (m : ℕ) (q : List (Term E M)). IsOf S exps (power (vector_ring S.field) x m) q) ps n p w read h

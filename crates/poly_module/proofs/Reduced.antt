@@ -1,5 +1,5 @@
 -- A set of vectors has at most one reduced list, and a module at most one reduced basis.
-use Rattle.std.proofs.Common.{◌≡◌, ◌⊎◌, inl, inr, true, List, [], ◌∷◌, length, sym, ap, ap₂, ◌∙◌, refl, subst}
+use Rattle.std.proofs.Common.{◌≡◌, ℕ, zero, suc, ◌⊎◌, inl, inr, true, List, [], ◌∷◌, length, sym, ap, ap₂, ◌∙◌, refl, subst}
 use Rattle.std.specs.declared.cmp.Ordering.TheVariants.{Less}
 use mathlib.Core.Bool.{Bool-discrete}
 use Rattle.alg_core.specs.RingLaws as rings
@@ -15,20 +15,20 @@ use Rattle.alg_core.specs.Vectors.{Vect, vectors, coef_at, plus, zero_vector}
 use Rattle.alg_core.specs.Spaces.{SpaceOver}
 use Rattle.alg_core.specs.SpaceOrder.{key_order}
 use Rattle.poly_module.specs.Parts.{Supp}
-use Rattle.poly_module.specs.Modules.{IsSubspace, LeadBy, InModule}
+use Rattle.poly_module.specs.Modules.{IsSubspace, LeadBy, InModule, IsBasis, listed}
 use Rattle.poly_module.specs.ReducedLists.{LeadsFall, IsReduced, FitsOrder, IsReducedBasis}
-use Rattle.poly_module.proofs.ModuleElements.{module_subspace, module_positions}
+use Rattle.poly_module.proofs.ModuleElements.{module_zero, module_subspace, module_positions, module_within}
 use Rattle.poly_module.proofs.KeyGrowth.{divisor_not_greater}
 
 module _ {E : Type 0} (k : FieldOn E) where
-  abbrev zero : Scalar k
-  zero = (scalars k).zero
+  abbrev nought : Scalar k
+  nought = (scalars k).zero
 
   -- u less v
-  difference : Vect k → Vect k → Vect k
+  unfoldable pub difference : Vect k → Vect k → Vect k
   difference u v = plus k u (modules.minus (vectors k) v)
 
-  coef_difference : (u v : Vect k) (t : Key) → coef_at k (difference u v) t ≡ (scalars k).◌+◌ (coef_at k u t) ((scalars k).◌*◌ ((scalars k).neg (scalars k).one) (coef_at k v t))
+  pub coef_difference : (u v : Vect k) (t : Key) → coef_at k (difference u v) t ≡ (scalars k).◌+◌ (coef_at k u t) ((scalars k).◌*◌ ((scalars k).neg (scalars k).one) (coef_at k v t))
   unfolding difference coef_at plus
   coef_difference u v t = coef_add (scalars k) key_same u _ t ∙ ap ((scalars k).◌+◌ _) (ap (λ w. coef_at k w t) (modules.minus_is (vectors k) v) ∙ coef_act (scalars k) key_same _ v t)
 
@@ -36,7 +36,7 @@ module _ {E : Type 0} (k : FieldOn E) where
   unfolding difference
   subspace_difference U sub u v a b = sub.plus u _ a (subst U (sym (modules.minus_is (vectors k) v)) (sub.act _ v b))
 
-  difference_zero : (u v : Vect k) → difference u v ≡ zero_vector k → u ≡ v
+  pub difference_zero : (u v : Vect k) → difference u v ≡ zero_vector k → u ≡ v
   unfolding difference plus zero_vector
   difference_zero u v e = modules.eq_of_minus (vectors k) u v e
 
@@ -44,7 +44,7 @@ module _ {E : Type 0} (k : FieldOn E) where
       (trans : (s t u : Key) → D s t → D t u → D s u) (W : Key → Type 0) (within : (v : Vect k) → U v → Supp k W v)
       (up : (s t : Key) → W s → D s t → ¬ (o.compare t s ≡ Less)) where
     -- no other key of a member is a multiple of a lead
-    no_key : (vs : List (Vect k)) → IsReduced k o D U vs → (v : Vect k) → In v vs → (r t : Key) → LeadBy k o v r → ¬ (t ≡ r) → ¬ (coef_at k v t ≡ zero)
+    no_key : (vs : List (Vect k)) → IsReduced k o D U vs → (v : Vect k) → In v vs → (r t : Key) → LeadBy k o v r → ¬ (t ≡ r) → ¬ (coef_at k v t ≡ nought)
         → (w : Vect k) (s : Key) → In w vs → LeadBy k o w s → D s t → ⊥
     unfolding coef_at
     no_key vs a v p r t lead n c w s q l d = go (trichotomy o t r)
@@ -72,11 +72,11 @@ module _ {E : Type 0} (k : FieldOn E) where
           inside : U (difference v w)
           inside = subspace_difference U sub v w (a.inside v p) (b.inside w q)
 
-          at_lead : coef_at k (difference v w) r ≡ zero
+          at_lead : coef_at k (difference v w) r ≡ nought
           at_lead = coef_difference v w r ∙ ap₂ (scalars k).◌+◌ (a.monic v r p lv) (ap ((scalars k).◌*◌ _) (b.monic w r q lw) ∙ (scalars k).mul_one _) ∙ (scalars k).add_neg (scalars k).one
 
-          neither : (t : Key) → LeadBy k o (difference v w) t → Dec (coef_at k v t ≡ zero) → Dec (coef_at k w t ≡ zero) → ⊥
-          neither t l (yes x) (yes y) = l.there (coef_difference v w t ∙ ap₂ (scalars k).◌+◌ x (ap ((scalars k).◌*◌ _) y ∙ rings.mul_zero (scalars k) _) ∙ (scalars k).add_zero zero)
+          neither : (t : Key) → LeadBy k o (difference v w) t → Dec (coef_at k v t ≡ nought) → Dec (coef_at k w t ≡ nought) → ⊥
+          neither t l (yes x) (yes y) = l.there (coef_difference v w t ∙ ap₂ (scalars k).◌+◌ x (ap ((scalars k).◌*◌ _) y ∙ rings.mul_zero (scalars k) _) ∙ (scalars k).add_zero nought)
           neither t l (no x) y = let c = a.covers _ t inside l in no_key vs a v p r t lv (λ z. l.there (ap (coef_at k (difference v w)) z ∙ at_lead)) x c.0 c.1 c.2 c.3 c.4
           neither t l (yes x) (no y) = let c = b.covers _ t inside l in no_key ws b w q r t lw (λ z. l.there (ap (coef_at k (difference v w)) z ∙ at_lead)) y c.0 c.1 c.2 c.3 c.4
 
@@ -153,3 +153,25 @@ module _ {E : Type 0} (S : SpaceOver E) {I : Type 0} (g : I → Vect S.field) wh
   pub reduced_basis_unique : S.order.is_positive ≡ true → ((i : I) → Supp S.field (FitsOrder S) (g i)) → (vs ws : List (Vect S.field)) → IsReducedBasis S g vs → IsReducedBasis S g ws → vs ≡ ws
   reduced_basis_unique positive fits vs ws a b = reduced_unique S.field (key_order S) KeyDivides (InModule S.field g) (module_subspace S.field g) divides_trans (FitsOrder S)
       (module_positions S.field g (λ q. S.order.fits q (length S.weights) ≡ true) (λ q. Bool-discrete _ _) fits) (divisor_not_greater S positive) vs ws a.reduced b.reduced
+
+module _ {E : Type 0} (k : FieldOn E) where
+  -- a member of a list has a place
+  pub place_of_member : (vs : List (Vect k)) (w : Vect k) → In w vs → (i : ℕ) × (listed k vs i ≡ w)
+  place_of_member [] w i = absurd i
+  place_of_member (v ∷ vs) w (inl e) = (0, e)
+  place_of_member (v ∷ vs) w (inr i) = let r = place_of_member vs w i in (suc r.0, r.1)
+
+  -- at each place stands a member, or 0
+  pub listed_has : (P : Vect k → Type 0) → P (zero_vector k) → (vs : List (Vect k)) → ((w : Vect k) → In w vs → P w) → (i : ℕ) → P (listed k vs i)
+  listed_has P none [] h i = none
+  listed_has P none (v ∷ vs) h zero = h v (inl refl)
+  listed_has P none (v ∷ vs) h (suc i) = listed_has P none vs (λ w j. h w (inr j)) i
+
+module _ {E : Type 0} (S : SpaceOver E) {I : Type 0} (g : I → Vect S.field) where
+  -- a reduced basis is a basis of the module that it generates
+  pub reduced_is_basis : (vs : List (Vect S.field)) → IsReducedBasis S g vs → IsBasis S.field (listed S.field vs) (key_order S)
+  reduced_is_basis vs a v t inside lead =
+      let within = module_within S.field (listed S.field vs) g (listed_has S.field (InModule S.field g) (module_zero S.field g) vs a.reduced.inside) v inside in
+      let c = a.reduced.covers v t within lead in
+      let p = place_of_member S.field vs c.0 c.2 in
+      (p.0, c.1, subst (λ w. LeadBy S.field (key_order S) w c.1) (sym p.1) c.3, c.4)

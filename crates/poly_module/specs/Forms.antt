@@ -26,18 +26,18 @@ use Rattle.poly_module.specs.Degrees.{IsGraded, graded_part, graded_part_graded,
 abbrev pub key_weight : List ℕ → Key → ℕ
 key_weight ws t = weight ws 0 t.1.0
 
-both : {A B : Type 0} → Dec A → Dec B → Dec (A × B)
-both (yes a) (yes b) = yes (a, b)
-both (yes a) (no b) = no (λ p. b p.1)
-both (no a) b = no (λ p. a p.0)
+pub dec_both : {A B : Type 0} → Dec A → Dec B → Dec (A × B)
+dec_both (yes a) (yes b) = yes (a, b)
+dec_both (yes a) (no b) = no (λ p. b p.1)
+dec_both (no a) b = no (λ p. a p.0)
 
 module _ {E : Type 0} (k : FieldOn E) (ws : List ℕ) where
   -- position 0 and degree d
-  abbrev OfDegree : ℕ → Key → Type 0
+  abbrev pub OfDegree : ℕ → Key → Type 0
   OfDegree d t = (t.0 ≡ 0) × (key_weight ws t ≡ d)
 
-  of_degree : (d : ℕ) (t : Key) → Dec (OfDegree d t)
-  of_degree d t = both (ℕ_discrete t.0 0) (ℕ_discrete (key_weight ws t) d)
+  pub of_degree : (d : ℕ) (t : Key) → Dec (OfDegree d t)
+  of_degree d t = dec_both (ℕ_discrete t.0 0) (ℕ_discrete (key_weight ws t) d)
 
   -- a homogeneous polynomial of degree d
   abbrev pub IsForm : ℕ → Vect k → Type 0

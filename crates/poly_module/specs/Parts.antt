@@ -2,10 +2,12 @@
 --
 --   Supp k Q v            each key at which the coefficient of v is not 0 satisfies Q
 --   select k test v       the part of v at the keys that pass the test
+--   passing f t           whether the key t passes the test f
 --   IsPolynomial k v      the keys of v have position 0
 --   InVariables k n v     the keys of v have no variable but the first n
 --   supp_ind              induction by one term with a key that satisfies Q
-use Rattle.std.specs.Prelude.{◌≡◌, ℕ, ◌≤◌, length}
+use Rattle.std.specs.Prelude.{◌≡◌, ℕ, ◌≤◌, length, Bool, true}
+use mathlib.Core.Bool.{Bool-discrete}
 use mathlib.Core.Path.{sym, ap, ap₂, ◌∙◌, refl, subst}
 use mathlib.Core.HLevel.{Π_prop}
 use Rattle.alg_core.specs.Rings.{Module, Linear}
@@ -21,6 +23,10 @@ use Rattle.alg_core.specs.Vectors.{Vect, vectors, coef_at, plus, zero_vector, sc
 use Rattle.alg_core.proofs.VectorLaws.{coef_at_ext, coef_at_plus, coef_at_scale, coef_at_zero, zero_plus}
 use Rattle.poly_module.specs.Polynomials.{single_vector, product}
 use Rattle.poly_module.specs.Products.{product_linear, product_linear_left, product_single}
+
+-- a test of keys as a decision
+abbrev pub passing : (f : Key → Bool) (t : Key) → Dec (f t ≡ true)
+passing f t = Bool-discrete (f t) true
 
 -- where the decided fact does not hold, nothing
 unfoldable chosen : {P A : Type 0} → Dec P → A → A → A

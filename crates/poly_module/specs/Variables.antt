@@ -83,14 +83,14 @@ length_trimmed (suc n) (x ∷ a) e =
 pub length_mon : (n : ℕ) (m : Mon) → ((i : ℕ) → n ≤ i → exponent m.0 i ≡ 0) → length m.0 ≤ n
 length_mon n m e = subst (λ l. length l ≤ n) m.1 (length_trimmed n m.0 e)
 
-length_mul : (n : ℕ) (a b : Mon) → length a.0 ≤ n → length b.0 ≤ n → length (monomials.◌·◌ a b).0 ≤ n
+pub length_mul : (n : ℕ) (a b : Mon) → length a.0 ≤ n → length b.0 ≤ n → length (monomials.◌·◌ a b).0 ≤ n
 length_mul n a b h g = length_mon n (monomials.◌·◌ a b) (λ i l.
     let p = exponent_mul a b i in
     let q = exponent_past a.0 i (omega arith) in
     let r = exponent_past b.0 i (omega arith) in
     omega arith)
 
-length_one : (n : ℕ) → length monomials.one.0 ≤ n
+pub length_one : (n : ℕ) → length monomials.one.0 ≤ n
 length_one n = length_mon n monomials.one (λ i l. exponent_one i)
 
 module _ {E : Type 0} (k : FieldOn E) where
@@ -140,7 +140,7 @@ module _ {E : Type 0} (k : FieldOn E) where
   image_variables i (suc n) zero h = ap (variable_vector k) (omega arith)
   image_variables i (suc n) (suc j) h = image_variables (suc i) n j (omega arith) ∙ ap (variable_vector k) (omega arith)
 
-  substitute_linear : (xs : List (Vect k)) → Linear (vectors k) (vectors k) (substitute k xs)
+  pub substitute_linear : (xs : List (Vect k)) → Linear (vectors k) (vectors k) (substitute k xs)
   unfolding polynomial_algebra polynomials
   substitute_linear xs = record { add = (substitute_homomorphism k xs).add; act = (substitute_homomorphism k xs).act }
 

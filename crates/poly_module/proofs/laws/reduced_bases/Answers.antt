@@ -1,0 +1,9 @@
+use Rattle.alg_core.specs.Spaces.{over}
+use Rattle.poly_module.proofs.Reduced.{reduced_basis_unique, reduced_is_basis}
+use Rattle.poly_module.proofs.laws.reduced_bases.Goals as goal
+
+pub returns-clause-unique : goal.returns-clause-unique
+returns-clause-unique g c = let S = over g.F.Field.field g.O.TermOrder.order c.args._space.now in λ positive m. reduced_basis_unique S m positive
+
+pub returns-clause-basis : goal.returns-clause-basis
+returns-clause-basis g c = reduced_is_basis (over g.F.Field.field g.O.TermOrder.order c.args._space.now)
