@@ -85,7 +85,7 @@ module _ {E : Type 0} (k : FieldOn E) where
   pub supp_bound : (a b : ℕ) → a ≤ b → (v : Vect k) → Supp k (Bounded a) v → Supp k (Bounded b) v
   supp_bound a b le v = supp_weaken k (Bounded a) (Bounded b) (λ t h. (h.0, omega (arith, h.1))) v
 
-  vec_scaled : (e : Entry E) → vec k (e ∷ []) ≡ scale k e.1 (single_vector k (key e.0))
+  pub vec_scaled : (e : Entry E) → vec k (e ∷ []) ≡ scale k e.1 (single_vector k (key e.0))
   unfolding scale single_vector
   vec_scaled e = vec_single k e
 

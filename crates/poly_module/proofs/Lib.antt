@@ -20,3 +20,7 @@ pub mod EchelonLists
 pub mod Elimination
 pub mod Echelon
 pub mod CombinationLaws
+pub mod GreatestSteps
+pub mod TableSteps
+pub mod ValueSteps
+pub mod SumSteps

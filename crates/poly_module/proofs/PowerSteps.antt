@@ -1,5 +1,5 @@
 -- Steps of the loops that make tables of powers.
-use Rattle.std.proofs.Common.{◌≡◌, ◌<◌, ◌≤◌, ◌+◌, ◌*◌, ℕ, zero, suc, List, [], ◌∷◌, ◌++◌, length, get_or, refl, sym, ap, ap₂, subst, ◌∙◌, arith}
+use Rattle.std.proofs.Common.{◌≡◌, ◌<◌, ◌≤◌, ◌+◌, ◌*◌, ℕ, zero, suc, List, [], ◌∷◌, ◌++◌, length, length-append, get_or, refl, sym, ap, ap₂, subst, ◌∙◌, arith}
 use Rattle.std.specs.Prelude.{All}
 use Rattle.alg_core.specs.ExponentLists.{product as list_product, Within}
 use Rattle.alg_core.specs.Fields.{scalar_one}
@@ -65,8 +65,12 @@ module _ {E M : Type 0} (S : SpaceOver E) (exps : M → List ℕ) where
       → Fits S (entries exps p) → vec S.field (entries exps p) ≡ power (vector_ring S.field) x (suc n)
       → IsPowers S exps x new × (length new ≡ n + 1 + 1)
   powers_next x n old new p pushed was fits is =
-      let long : length new ≡ length old + 1 = ap length pushed ∙ length_append old (p ∷ []) in
-      (all_at_push (λ (m : ℕ) (q : List (Term E M)). IsOf S exps (power (vector_ring S.field) x m) q) old new p pushed was.0 (fits, is ∙ ap (power (vector_ring S.field) x) (omega (arith, was.1))), omega (arith, was.1))
+      let long : length new ≡ length old + 1 = ap length pushed ∙ length-append old (p ∷ []) in
+      let at : suc n ≡ length old = omega (arith, was.1) in
+      (all_at_push (λ (m : ℕ) (q : List (Term E M)). IsOf S exps (power (vector_ring S.field) x m) q) old new p pushed was.0 (fits, is ∙ ap (power (vector_ring S.field) x) at), omega (arith, was.1))
 
   pub powers_read : (x : Vect S.field) (ps : List (List (Term E M))) (n : ℕ) (p : List (Term E M)) → n < length ps → p ≡ get_or ps n p → IsPowers S exps x ps → IsOf S exps (power (vector_ring S.field) x n) p
   powers_read x ps n p w read h = all_at_read (λ (m : ℕ) (q : List (Term E M)). IsOf S exps (power (vector_ring S.field) x m) q) ps n p w read h
+
+pub all_read : {A : Type 0} (P : A → Type 0) (l : List A) (i : ℕ) (x : A) → i < length l → x ≡ get_or l i x → All P l → P x
+all_read P l i x w e h = subst P (sym e) (h i x w)

@@ -22,5 +22,6 @@ pub use laws::{
 pub use merge::{add, sub};
 pub use multiple::{mul_term, scale};
 pub use product::mul;
+pub use substitution::substitute;
 pub use vector::{Comb, Poly, Vector};
 pub use whole::make;

@@ -1,0 +1,72 @@
+use Rattle.std.proofs.Common.{rules, ◌≡◌, ◌<◌, ◌≤◌, ◌/◌, ◌*◌, length, sym, ap, ◌∙◌, arith, []}
+use Rattle.std.specs.Prelude.{All, map}
+use Rattle.alg_core.specs.Fields.{Has}
+use Rattle.alg_core.specs.Spaces.{over, entry, entries}
+use Rattle.poly_module.specs.GreatestExponents.{total, highest}
+use Rattle.poly_module.specs.PowerTables.{Covers, values}
+use Rattle.poly_module.proofs.EntryLists.{given_at}
+use Rattle.poly_module.proofs.Factors.{all_front, all_back}
+use Rattle.poly_module.proofs.SumSteps.{no_value, one_value, value_halves}
+use Rattle.poly_module.proofs.substitution.+value_of_terms.Goals as goal
+
+pub returns-then-terms-eq0-clause-value : goal.returns-then-terms-eq0-clause-value
+returns-then-terms-eq0-clause-value g t c =
+    let S = over g.F.Field.field g.O.TermOrder.order c.args.space.now in
+    no_value S g.M.Monomial.exps (values S g.M.Monomial.exps c.args.images.now) c.args.terms.now _ (c.of.ensures.is ∙ c.new.ensures.items) (omega arith)
+
+pub value_of_monomial-requires-clause-covers : goal.value_of_monomial-requires-clause-covers
+value_of_monomial-requires-clause-covers g t c =
+    let S = over g.F.Field.field g.O.TermOrder.order c.args.space.now in
+    given_at S g.M.Monomial.exps (λ e. Covers c.args.table.now e.0.1) c.args.terms.now 0 c.index-terms-0.result (omega arith) c.index-terms-0.is c.requires.covers
+
+pub value_of_monomial-requires-clause-variables : goal.value_of_monomial-requires-clause-variables
+value_of_monomial-requires-clause-variables g t c =
+    let S = over g.F.Field.field g.O.TermOrder.order c.args.space.now in
+    given_at S g.M.Monomial.exps (λ e. length e.0.1 ≡ length c.args.images.now) c.args.terms.now 0 c.index-terms-0.result (omega arith) c.index-terms-0.is c.requires.variables
+
+pub value_of_monomial-requires-clause-small : goal.value_of_monomial-requires-clause-small
+value_of_monomial-requires-clause-small g t c =
+    let S = over g.F.Field.field g.O.TermOrder.order c.args.space.now in
+    let exps = g.M.Monomial.exps in
+    given_at S exps (λ e. total e.0.1 * highest (map (entries exps) c.args.images.now) ≤ g.M.Monomial.MAX_EXP) c.args.terms.now 0 c.index-terms-0.result (omega arith) c.index-terms-0.is c.requires.small
+
+pub scale-requires-clause-value : goal.scale-requires-clause-value
+scale-requires-clause-value g t c =
+    let S = over g.F.Field.field g.O.TermOrder.order c.args.space.now in
+    given_at S g.M.Monomial.exps (λ e. Has S.field e.1) c.args.terms.now 0 c.index-terms-0.result (omega arith) c.index-terms-0.is c.requires.coefficients
+
+pub returns-then-terms-eq1-clause-value : goal.returns-then-terms-eq1-clause-value
+returns-then-terms-eq1-clause-value g t c =
+    let S = over g.F.Field.field g.O.TermOrder.order c.args.space.now in
+    let exps = g.M.Monomial.exps in
+    one_value S exps (values S exps c.args.images.now) c.args.terms.now _ _ c.index-terms-0.result (omega arith) c.index-terms-0.is c.in_ok-monomial.ensures.value.1 c.in_ok-value.ensures.multiple
+
+pub value_of_terms-requires : goal.value_of_terms-requires
+value_of_terms-requires g t c κs within =
+    let exps = g.M.Monomial.exps in
+    let half = length c.args.terms.now / 2 in
+    let terms = c.args.terms.now in
+    let cut = c.split_at.ensures.front in
+    (omega arith, (search rules, (search rules, (search rules, (search rules, (c.requires.one, (c.requires.polynomials, (c.requires.table,
+        (all_front exps (λ e. Has (g.F.Field.field c.args.space.now.field) e.1) half terms _ cut c.requires.coefficients,
+        (all_front exps (λ e. Covers c.args.table.now e.0.1) half terms _ cut c.requires.covers,
+        (all_front exps (λ e. length e.0.1 ≡ length c.args.images.now) half terms _ cut c.requires.variables,
+        all_front exps (λ e. total e.0.1 * highest (map (entries exps) c.args.images.now) ≤ g.M.Monomial.MAX_EXP) half terms _ cut c.requires.small)))))))))))
+
+pub value_of_terms-requires-2 : goal.value_of_terms-requires-2
+value_of_terms-requires-2 g t c κs within =
+    let exps = g.M.Monomial.exps in
+    let half = length c.args.terms.now / 2 in
+    let terms = c.args.terms.now in
+    let cut = c.split_at.ensures.back in
+    (omega arith, (search rules, (search rules, (search rules, (search rules, (c.requires.one, (c.requires.polynomials, (c.requires.table,
+        (all_back exps (λ e. Has (g.F.Field.field c.args.space.now.field) e.1) half terms _ cut c.requires.coefficients,
+        (all_back exps (λ e. Covers c.args.table.now e.0.1) half terms _ cut c.requires.covers,
+        (all_back exps (λ e. length e.0.1 ≡ length c.args.images.now) half terms _ cut c.requires.variables,
+        all_back exps (λ e. total e.0.1 * highest (map (entries exps) c.args.images.now) ≤ g.M.Monomial.MAX_EXP) half terms _ cut c.requires.small)))))))))))
+
+pub returns-clause-value : goal.returns-clause-value
+returns-clause-value g t c =
+    let S = over g.F.Field.field g.O.TermOrder.order c.args.space.now in
+    let exps = g.M.Monomial.exps in
+    value_halves S exps (values S exps c.args.images.now) (length c.args.terms.now / 2) c.args.terms.now _ _ _ _ _ c.split_at.ensures.front c.split_at.ensures.back c.in_ok-left.ensures.value c.in_ok-right.ensures.value c.in_ok-sum.ensures.sum
