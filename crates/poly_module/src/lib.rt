@@ -8,6 +8,8 @@ mod merge;
 mod multiple;
 mod product;
 mod signs;
+#[cfg(test)]
+mod tests;
 mod vector;
 mod whole;
 
