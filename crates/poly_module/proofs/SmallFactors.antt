@@ -1,5 +1,5 @@
 -- Products of lists of exponents that are at most 1000.
-use Rattle.std.proofs.Common.{◌≡◌, ◌<◌, ◌≤◌, ◌+◌, ℕ, zero, suc, List, [], ◌∷◌, length, get_or, arith}
+use Rattle.std.proofs.Common.{◌<◌, ◌≤◌, ℕ, zero, suc, List, [], ◌∷◌, length, get_or, arith}
 use Rattle.std.specs.Prelude.{All}
 use Rattle.alg_core.specs.ExponentLists.{product, Within}
 use Rattle.alg_core.specs.Vectors.{Entry}

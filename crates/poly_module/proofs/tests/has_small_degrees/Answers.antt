@@ -1,4 +1,4 @@
-use Rattle.std.proofs.Common.{◌≡◌, ◌<◌, ◌^◌, sym, subst, arith}
+use Rattle.std.proofs.Common.{◌<◌, ◌^◌, sym, subst, arith}
 use Rattle.alg_core.specs.Keys.{key}
 use Rattle.alg_core.specs.Spaces.{over, entry, entries, Fits}
 use Rattle.alg_core.specs.SpaceGrading.{degree}

@@ -1,4 +1,4 @@
-use Rattle.std.proofs.Common.{◌≡◌, arith}
+use Rattle.std.proofs.Common.{arith}
 use Rattle.alg_core.specs.ExponentLists.{Within}
 use Rattle.alg_core.specs.Spaces.{entry}
 use Rattle.poly_module.proofs.CheckedEntries.{all_more, all_done}

@@ -1,4 +1,4 @@
-use Rattle.std.proofs.Common.{◌≤◌, arith}
+use Rattle.std.proofs.Common.{arith}
 use Rattle.alg_core.specs.Spaces.{entries}
 use Rattle.poly_module.proofs.SmallFactors.{small_multiples}
 use Rattle.poly_module.proofs.tests.multiple_of.Goals as goal

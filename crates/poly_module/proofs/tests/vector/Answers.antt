@@ -1,4 +1,3 @@
-use Rattle.std.proofs.Common.{◌≡◌}
 use Rattle.alg_core.specs.Fields.{Has}
 use Rattle.alg_core.specs.Spaces.{over, entry, IsPlace}
 use Rattle.poly_module.proofs.CheckedEntries.{all_pushed}
