@@ -1,5 +1,5 @@
 -- What `==` tells of a field's values.
-use Rattle.std.proofs.Common.{◌≡◌, ◌≢◌, Bool, true, false, sym, ap, subst, ◌∙◌}
+use Rattle.std.proofs.Common.{◌≡◌, ◌≢◌, Bool, true, false, sym, subst, ◌∙◌}
 use Rattle.alg_core.specs.Fields.{Exact}
 
 pub eq_true : {E : Type 0} (eq : E → E → Bool) → Exact eq → (c z : E) (r : Bool) → r ≡ eq c z → r ≡ true → c ≡ z

@@ -1,12 +1,12 @@
 -- Products with the sum of some terms at position 0.
-use Rattle.std.proofs.Common.{◌≡◌, ◌<◌, ◌≤◌, ◌+◌, ℕ, zero, suc, List, [], ◌∷◌, ◌++◌, map, length, get_or, take, drop, refl, sym, ap, ap₂, subst, ◌∙◌, arith}
+use Rattle.std.proofs.Common.{◌≡◌, ℕ, zero, suc, List, [], ◌∷◌, ◌++◌, length, get_or, take, drop, refl, sym, ap, ap₂, subst, ◌∙◌, arith}
 use Rattle.std.specs.Prelude.{All}
 use Rattle.std.proofs.lemmas.List.{map-append}
 use Rattle.alg_core.specs.declared.term.Term.{Term}
 use Rattle.alg_core.specs.Fields.{scalars, scalar}
 use Rattle.alg_core.specs.FreeModules.{single}
 use Rattle.alg_core.specs.Monomials.{mono}
-use Rattle.alg_core.specs.Keys.{Key, key, key_same}
+use Rattle.alg_core.specs.Keys.{key, key_same}
 use Rattle.alg_core.specs.Vectors.{Entry, vectors, vec, plus, scale, shift}
 use Rattle.alg_core.specs.Spaces.{SpaceOver, entry, entries, IsTerm, Fits}
 use Rattle.alg_core.proofs.VectorLaws.{vec_append, vec_nothing, vec_single}

@@ -1,12 +1,11 @@
 -- A sum by its halves.
-use Rattle.std.proofs.Common.{◌≡◌, ◌≢◌, ◌<◌, ◌≤◌, ◌+◌, ℕ, zero, suc, List, [], ◌∷◌, ◌++◌, map, length, get_or, take, drop, refl, sym, ap, ap₂, subst, ◌∙◌, arith}
-use Rattle.std.specs.Prelude.{All, Option, slice_get}
-use Rattle.std.specs.declared.option.Option.TheVariants.{None, Some}
+use Rattle.std.proofs.Common.{◌≡◌, ◌≢◌, ℕ, zero, suc, List, [], ◌∷◌, ◌++◌, take, drop, refl, sym, ap, ap₂, subst, ◌∙◌, arith}
+use Rattle.std.specs.Prelude.{All}
 use Rattle.std.proofs.lemmas.List.{map-append}
 use Rattle.alg_core.specs.Fields.{Has}
 use Rattle.alg_core.specs.declared.term.Term.{Term}
-use Rattle.alg_core.specs.Spaces.{SpaceOver, entry, entries, IsTerm, IsPlace, Fits}
-use Rattle.alg_core.specs.Vectors.{Entry, vec, plus, zero_vector}
+use Rattle.alg_core.specs.Spaces.{SpaceOver, entry, entries, IsPlace, Fits}
+use Rattle.alg_core.specs.Vectors.{vec, plus}
 use Rattle.alg_core.proofs.VectorLaws.{vec_append, vec_nothing, vec_zero}
 
 take_drop : {A : Type 0} (n : ℕ) (l : List A) → take n l ++ drop n l ≡ l

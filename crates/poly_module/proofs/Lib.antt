@@ -8,6 +8,8 @@ pub mod Multiples
 pub mod Halves
 pub mod Leads
 pub mod GreatestValues
+pub mod CheckedEntries
+pub mod SmallFactors
 pub mod Factors
 pub mod ModuleElements
 pub mod KeyGrowth

@@ -1,7 +1,5 @@
 -- The merge of two lists of entries that fall.
-use Rattle.std.proofs.Common.{◌≡◌, ◌≢◌, ℕ, List, [], ◌∷◌, ◌++◌, refl, sym, ap, ap₂, subst, ◌∙◌, append_assoc}
-use Rattle.std.specs.declared.cmp.Ordering.TheVariants.{Greater}
-use Rattle.alg_core.specs.Fields.{FieldOn, Has}
+use Rattle.std.proofs.Common.{◌≡◌, ◌≢◌, List, [], ◌∷◌, ◌++◌, refl, sym, ap, ap₂, subst, ◌∙◌, append_assoc}
 use Rattle.alg_core.specs.Spaces.{SpaceOver, IsTerm, IsAbove, Fits}
 use Rattle.alg_core.specs.Vectors.{Entry, Vect, vec, plus, zero_vector}
 use Rattle.alg_core.proofs.FittingLists.{fits_front, fits_back, fits_insert, fits_without, fits_revalue}

@@ -1,16 +1,12 @@
 -- The entries of a multiple.
-use Rattle.std.proofs.Common.{◌≡◌, ◌≢◌, ◌<◌, ◌≤◌, ◌+◌, ℕ, zero, suc, List, [], ◌∷◌, ◌++◌, map, length, get_or, take, drop, refl, sym, ap, ap₂, subst, ◌∙◌, arith}
-use Rattle.std.specs.Prelude.{All}
-use Rattle.std.proofs.lemmas.List.{map-append, take_more, take_all}
-use Rattle.std.specs.declared.cmp.Ordering.TheVariants.{Greater}
-use Rattle.alg_core.specs.Fields.{FieldOn, Has, product_not_zero}
+use Rattle.std.proofs.Common.{◌≡◌, ◌≢◌, ℕ, List, [], ◌∷◌, map, length, refl, sym, ap, ap₂, ◌∙◌, arith}
+use Rattle.alg_core.specs.Fields.{Has, product_not_zero}
 use Rattle.alg_core.specs.Monomials.{mono}
 use Rattle.alg_core.specs.ExponentLists.{product}
 use Rattle.alg_core.specs.Keys.{Place}
 use Rattle.alg_core.specs.PlaceOrders.{times_place}
-use Rattle.alg_core.specs.declared.term.Term.{Term}
-use Rattle.alg_core.specs.Spaces.{SpaceOver, entry, entries, IsTerm, IsPlace, IsAbove, Fits}
-use Rattle.alg_core.specs.Vectors.{Entry, vec, plus, zero_vector, scale, shift}
+use Rattle.alg_core.specs.Spaces.{SpaceOver, IsPlace, IsAbove, Fits}
+use Rattle.alg_core.specs.Vectors.{Entry, vec, plus, scale, shift}
 use Rattle.alg_core.proofs.VectorLaws.{vec_nothing, vec_cons, shift_plus, shift_zero_vector, shift_entry, scale_plus, scale_zero_vector, scale_entry, scale_zero}
 
 module _ {E : Type 0} (S : SpaceOver E) (c : E) (m : List ℕ) where

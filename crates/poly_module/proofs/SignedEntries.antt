@@ -1,12 +1,11 @@
 -- Lists of entries with a sign: they fit, and what their vectors are.
-use Rattle.std.proofs.Common.{◌≡◌, ◌≢◌, List, [], ◌∷◌, map, refl, sym, ap, ap₂, ◌∙◌}
+use Rattle.std.proofs.Common.{◌≡◌, ◌≢◌, List, [], ◌∷◌, sym, ap, ap₂, ◌∙◌}
 use Rattle.std.proofs.lemmas.List.{map-id}
-use Rattle.alg_core.specs.Fields.{FieldOn, Has, scalars, scalar, scalar_zero, scalar_neg, scalar_injective}
-use Rattle.alg_core.specs.RingLaws as rings
+use Rattle.alg_core.specs.Fields.{FieldOn, Has}
 use Rattle.alg_core.specs.Keys.{Place}
-use Rattle.alg_core.specs.Spaces.{SpaceOver, IsTerm, IsAbove, Fits}
+use Rattle.alg_core.specs.Spaces.{SpaceOver, IsAbove, Fits}
 use Rattle.alg_core.specs.Vectors.{Entry, Vect, vec, plus, zero_vector}
-use Rattle.alg_core.proofs.VectorLaws.{plus_assoc, plus_comm, plus_swap, plus_zero, zero_plus, vec_nothing, vec_cons, vec_twice, vec_zero}
+use Rattle.alg_core.proofs.VectorLaws.{plus_assoc, plus_swap, plus_zero, vec_nothing, vec_cons, vec_twice, vec_zero}
 use Rattle.poly_module.specs.declared.signs.Sign.{Sign}
 use Rattle.poly_module.specs.declared.signs.Sign.TheVariants.{Plus, Minus}
 use Rattle.poly_module.specs.Signs.{with_sign, signed_entry, signed_entries}

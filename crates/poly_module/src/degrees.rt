@@ -52,7 +52,10 @@ pub fn is_homogeneous<F: Field, O: TermOrder, M: Monomial>(
 }
 
 /// The degree of a term.
-fn term_degree<F: Field, O: TermOrder, M: Monomial>(space: &Space<F, O>, at: &ModTerm<M>) -> u128
+pub(crate) fn term_degree<F: Field, O: TermOrder, M: Monomial>(
+    space: &Space<F, O>,
+    at: &ModTerm<M>,
+) -> u128
     requires place { IsPlace (over F.field O.order space.now) (place M.exps at.now) }
     ensures is { let S = over F.field O.order space.now in result ≡ degree S (key (place M.exps at.now)) }
 {

@@ -10,6 +10,8 @@ mod multiple;
 mod product;
 mod signs;
 mod substitution;
+#[cfg(test)]
+mod tests;
 mod vector;
 mod whole;
 

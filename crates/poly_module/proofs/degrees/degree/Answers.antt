@@ -1,10 +1,10 @@
-use Rattle.std.proofs.Common.{◌≡◌, ◌<◌, ◌+◌, ◌^◌, ◌∙◌, ℕ, Some, max, rules, ap, ap₂, sym, subst, length, take, get_or, arith}
-use Rattle.std.specs.Prelude.{All, IsNone, IfSome, unwrap_or}
+use Rattle.std.proofs.Common.{◌≡◌, ◌<◌, ◌+◌, ◌^◌, ◌∙◌, ℕ, Some, max, rules, ap₂, sym, subst, take, arith}
+use Rattle.std.specs.Prelude.{All, unwrap_or}
 use Rattle.std.proofs.lemmas.List.{take_all}
 use Rattle.alg_core.specs.Keys.{key}
-use Rattle.alg_core.specs.Spaces.{over, entry, entries, Fits, IsTerm}
+use Rattle.alg_core.specs.Spaces.{over, entry, entries, Fits}
 use Rattle.alg_core.specs.SpaceGrading.{degree}
-use Rattle.alg_core.specs.Vectors.{Entry, vec, zero_vector}
+use Rattle.alg_core.specs.Vectors.{Entry}
 use Rattle.poly_module.proofs.EntryLists.{entry_at, given_at}
 use Rattle.poly_module.proofs.GreatestValues.{GreatestOn, greatest_more, greatest_reached, greatest_bound, greatest_none, take_map}
 use Rattle.poly_module.proofs.Leads.{vec_is_zero}

@@ -1,4 +1,4 @@
-use Rattle.std.proofs.Common.{◌≡◌, ◌+◌, get_or, ap, ap₂, ◌∙◌, sym, arith}
+use Rattle.std.proofs.Common.{◌+◌, ap, ap₂, ◌∙◌, sym}
 use Rattle.std.proofs.lemmas.List.{get_or_read}
 use Rattle.alg_core.specs.DpOrder.{weighted_degree}
 use Rattle.alg_core.specs.Spaces.{over, place}

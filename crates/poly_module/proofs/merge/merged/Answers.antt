@@ -1,4 +1,4 @@
-use Rattle.std.proofs.Common.{◌≡◌, ◌≢◌, subst, refl, sym, ap, ◌∙◌, arith}
+use Rattle.std.proofs.Common.{◌≡◌, ◌≢◌, subst, sym, ap, ◌∙◌, arith}
 use Rattle.alg_core.specs.Spaces.{over, entries, Fits}
 use Rattle.poly_module.specs.Signs.{with_sign, signed_entries}
 use Rattle.poly_module.proofs.SignedEntries.{signed_fits}

@@ -1,10 +1,10 @@
-use Rattle.std.proofs.Common.{◌≡◌, ◌≢◌, ◌≤◌, ◌<◌, length, get_or, refl, sym, ap, ap₂, subst, ◌∙◌, arith, true, false}
+use Rattle.std.proofs.Common.{◌≡◌, sym, ap, subst, ◌∙◌, arith}
 use Rattle.std.specs.Prelude.{All}
 use Rattle.alg_core.specs.ExponentLists.{product, Within}
-use Rattle.alg_core.specs.Spaces.{over, entry, entries, Fits, IsTerm}
+use Rattle.alg_core.specs.Spaces.{over, entries, Fits}
 use Rattle.alg_core.specs.Vectors.{vec}
 use Rattle.poly_module.proofs.EntryLists.{entry_at, given_at}
-use Rattle.poly_module.proofs.MappedTerms.{mapped_more, mapped_all}
+use Rattle.poly_module.proofs.MappedTerms.{mapped_all}
 use Rattle.poly_module.proofs.Multiples.{multiple, multiples, vec_multiples, fits_multiples, zero_multiple}
 use Rattle.poly_module.proofs.multiple.mul_term.Goals as goal
 

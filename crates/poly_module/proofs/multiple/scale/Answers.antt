@@ -1,8 +1,8 @@
-use Rattle.std.proofs.Common.{◌≡◌, ◌≢◌, ◌≤◌, length, refl, sym, ap, subst, ◌∙◌, arith}
+use Rattle.std.proofs.Common.{◌≡◌, sym, ap, subst, ◌∙◌, arith}
 use Rattle.alg_core.specs.Spaces.{over, entries, Fits}
 use Rattle.alg_core.specs.Vectors.{vec}
 use Rattle.poly_module.proofs.EntryLists.{entry_at}
-use Rattle.poly_module.proofs.MappedTerms.{mapped_more, mapped_all}
+use Rattle.poly_module.proofs.MappedTerms.{mapped_all}
 use Rattle.poly_module.proofs.Multiples.{scaled_entry, scaled_entries, vec_scaled, fits_scaled, zero_scaled}
 use Rattle.poly_module.proofs.multiple.scale.Goals as goal
 

@@ -1,7 +1,7 @@
-use Rattle.std.proofs.Common.{rules, ◌≡◌, ◌<◌, ◌/◌, length, sym, ap, ◌∙◌, arith, []}
+use Rattle.std.proofs.Common.{rules, ◌≡◌, ◌/◌, length, ◌∙◌, arith}
 use Rattle.std.specs.Prelude.{All}
 use Rattle.alg_core.specs.ExponentLists.{product, Within}
-use Rattle.alg_core.specs.Spaces.{over, entry, entries, IsTerm}
+use Rattle.alg_core.specs.Spaces.{over, entries, IsTerm}
 use Rattle.poly_module.proofs.EntryLists.{given_at}
 use Rattle.poly_module.proofs.Factors.{all_front, all_back, no_factor, one_factor, factor_halves}
 use Rattle.poly_module.proofs.product.+product_of_terms.Goals as goal

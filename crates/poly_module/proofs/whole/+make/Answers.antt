@@ -1,6 +1,6 @@
-use Rattle.std.proofs.Common.{rules, ◌≡◌, ◌<◌, ◌/◌, length, sym, ap, ◌∙◌, arith, []}
+use Rattle.std.proofs.Common.{rules, ◌/◌, length, arith}
 use Rattle.alg_core.specs.Fields.{Has}
-use Rattle.alg_core.specs.Spaces.{over, entries, IsPlace}
+use Rattle.alg_core.specs.Spaces.{over, IsPlace}
 use Rattle.poly_module.proofs.Halves.{front_given, back_given, halves}
 use Rattle.poly_module.proofs.EntryLists.{given_at}
 use Rattle.poly_module.proofs.whole.+make.Goals as goal

@@ -1,4 +1,4 @@
-use Rattle.std.proofs.Common.{◌≡◌, sym, ap, ◌∙◌}
+use Rattle.std.proofs.Common.{sym, ap, ◌∙◌}
 use Rattle.alg_core.specs.Spaces.{over, entries}
 use Rattle.alg_core.specs.Vectors.{vec}
 use Rattle.poly_module.proofs.Halves.{zero_gone}
