@@ -1,4 +1,4 @@
-use Rattle.std.proofs.Common.{◌≡◌, ◌+◌, ◌<◌, ◌≤◌, All, length, vec_len}
+use Rattle.std.proofs.Common.{◌≡◌, All, length, vec_len}
 use Rattle.alg_core.specs.Fields.{Has}
 use Rattle.invring_app.proofs.basis.images.equations.Given as goal
 

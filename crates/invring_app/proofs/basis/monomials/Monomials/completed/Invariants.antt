@@ -1,5 +1,5 @@
-use Rattle.std.proofs.Common.{◌≡◌, ◌+◌, ◌<◌, ◌≤◌, All, vec_len}
-use Rattle.invring_app.specs.Monomials.{ArePlaces, IsPlaced}
+use Rattle.std.proofs.Common.{◌≡◌, ◌<◌, All, vec_len}
+use Rattle.invring_app.specs.Monomials.{ArePlaces}
 use Rattle.invring_app.proofs.basis.monomials.Monomials.completed.Given as goal
 
 abbrev pub invariant-loop-variable : goal.invariant-loop-variable

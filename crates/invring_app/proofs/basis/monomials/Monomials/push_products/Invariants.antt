@@ -1,5 +1,5 @@
 use Rattle.std.proofs.Common.{◌≡◌, ◌+◌, ◌<◌, ◌≤◌, All, vec_len}
-use Rattle.invring_app.specs.Monomials.{ArePlaces, IsPlaced}
+use Rattle.invring_app.specs.Monomials.{IsPlaced}
 use Rattle.invring_app.proofs.basis.monomials.Monomials.push_products.Given as goal
 
 abbrev pub invariant-loop-place : goal.invariant-loop-place

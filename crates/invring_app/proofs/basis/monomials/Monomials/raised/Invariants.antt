@@ -1,4 +1,4 @@
-use Rattle.std.proofs.Common.{◌≡◌, ◌+◌, ◌<◌, ◌≤◌, All, vec_len}
+use Rattle.std.proofs.Common.{◌≡◌, ◌+◌, ◌<◌, All, vec_len}
 use Rattle.invring_app.specs.Monomials.{ArePlaces, IsPlaced}
 use Rattle.invring_app.proofs.basis.monomials.Monomials.raised.Given as goal
 
