@@ -5,4 +5,5 @@ pub mod Outcomes
 pub mod Outputs
 pub mod Reading
 pub mod Refusals
+pub mod Rows
 pub mod ThinScripts

@@ -1,5 +1,6 @@
 ghost use Rattle.std.specs.Prelude.{◌≡◌, ◌+◌, ◌<◌, ◌≤◌, All, IfOk, IfSome, OnOk, length, vec_len};
 ghost use Rattle.alg_core.specs.Fields.{Has};
+ghost use Rattle.invring_app.specs.Rows.{AreLong, AreValues};
 
 use alg_core::{Field, Memory};
 use std::alloc::Global;
@@ -19,12 +20,12 @@ pub(super) fn eliminated<F: Field<Elem = u16>>(
     mut rows: Vec<Vec<u16>>,
     width: usize,
 ) -> Result<Echelon, Memory>
-    requires lengths { All (λ r. vec_len r ≡ width) rows.items }
-    requires has { All (λ r. All (Has (F.field field.now)) r.items) rows.items }
+    requires lengths { AreLong width rows.items }
+    requires has { AreValues (F.field field.now) rows.items }
     ensures pairs { IfOk result (λ e. vec_len e.columns ≡ vec_len e.rows) }
     ensures columns { IfOk result (λ e. All (λ c. c < width) e.columns.items) }
-    ensures lengths { IfOk result (λ e. All (λ r. vec_len r ≡ width) e.rows.items) }
-    ensures has { IfOk result (λ e. All (λ r. All (Has (F.field field.now)) r.items) e.rows.items) }
+    ensures lengths { IfOk result (λ e. AreLong width e.rows.items) }
+    ensures has { IfOk result (λ e. AreValues (F.field field.now) e.rows.items) }
 {
     let mut echelon = Echelon {
         columns: Vec::new(alloc),
@@ -50,12 +51,12 @@ fn keep<F: Field<Elem = u16>>(
     requires pivot { All (Has (F.field field.now)) pivot.items }
     requires pairs { vec_len echelon.old.columns ≡ vec_len echelon.old.rows }
     requires columns { All (λ c. c < vec_len pivot) echelon.old.columns.items }
-    requires lengths { All (λ r. vec_len r ≡ vec_len pivot) echelon.old.rows.items }
-    requires has { All (λ r. All (Has (F.field field.now)) r.items) echelon.old.rows.items }
+    requires lengths { AreLong (vec_len pivot) echelon.old.rows.items }
+    requires has { AreValues (F.field field.now) echelon.old.rows.items }
     ensures pairs { OnOk result (vec_len echelon.new.columns ≡ vec_len echelon.new.rows) }
     ensures columns { OnOk result (All (λ c. c < vec_len pivot) echelon.new.columns.items) }
-    ensures lengths { OnOk result (All (λ r. vec_len r ≡ vec_len pivot) echelon.new.rows.items) }
-    ensures has { OnOk result (All (λ r. All (Has (F.field field.now)) r.items) echelon.new.rows.items) }
+    ensures lengths { OnOk result (AreLong (vec_len pivot) echelon.new.rows.items) }
+    ensures has { OnOk result (AreValues (F.field field.now) echelon.new.rows.items) }
 {
     clear_column(field, &mut echelon.rows, column, &pivot);
     echelon.columns.push(column)?;
@@ -71,12 +72,12 @@ fn take_pivot<F: Field<Elem = u16>>(
     width: usize,
 ) -> Option<Vec<u16>>
     requires column { column < width }
-    requires lengths { All (λ r. vec_len r ≡ width) rows.old.items }
-    requires has { All (λ r. All (Has (F.field field.now)) r.items) rows.old.items }
+    requires lengths { AreLong width rows.old.items }
+    requires has { AreValues (F.field field.now) rows.old.items }
     ensures length { IfSome result (λ r. vec_len r ≡ width) }
     ensures has { IfSome result (λ r. All (Has (F.field field.now)) r.items) }
-    ensures lengths { All (λ r. vec_len r ≡ width) rows.new.items }
-    ensures others { All (λ r. All (Has (F.field field.now)) r.items) rows.new.items }
+    ensures lengths { AreLong width rows.new.items }
+    ensures others { AreValues (F.field field.now) rows.new.items }
 {
     for i in 0..rows.len() {
         if let Some(inverse) = field.inv(rows[i][column]) {
@@ -109,10 +110,10 @@ fn clear_column<F: Field<Elem = u16>>(
 )
     requires column { column < length pivot.now }
     requires pivot { All (Has (F.field field.now)) pivot.now }
-    requires lengths { All (λ r. vec_len r ≡ length pivot.now) rows.old }
-    requires has { All (λ r. All (Has (F.field field.now)) r.items) rows.old }
-    ensures lengths { All (λ r. vec_len r ≡ length pivot.now) rows.new }
-    ensures has { All (λ r. All (Has (F.field field.now)) r.items) rows.new }
+    requires lengths { AreLong (length pivot.now) rows.old }
+    requires has { AreValues (F.field field.now) rows.old }
+    ensures lengths { AreLong (length pivot.now) rows.new }
+    ensures has { AreValues (F.field field.now) rows.new }
 {
     for row in rows.iter_mut() {
         clear_entry(field, row, column, pivot);

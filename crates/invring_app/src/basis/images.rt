@@ -1,5 +1,6 @@
 ghost use Rattle.std.specs.Prelude.{◌≡◌, ◌+◌, ◌*◌, ◌^◌, ◌<◌, ◌≤◌, All, IfOk, length, slice_range, vec_len};
 ghost use Rattle.alg_core.specs.Fields.{Has};
+ghost use Rattle.invring_app.specs.Rows.{AreLong, AreValues};
 ghost use Rattle.invring_app.specs.Monomials.{ArePlaces};
 
 use super::monomials::Monomials;
@@ -28,8 +29,8 @@ pub(super) fn substituted<F: Field<Elem = u16>>(
     requires square { length matrix.now ≡ variables * variables }
     requires matrix { All (Has (F.field field.now)) matrix.now }
     ensures count { IfOk result (λ i. vec_len i.rows ≡ vec_len i.monomials.all) }
-    ensures lengths { IfOk result (λ i. All (λ r. vec_len r ≡ vec_len i.rows) i.rows.items) }
-    ensures has { IfOk result (λ i. All (λ r. All (Has (F.field field.now)) r.items) i.rows.items) }
+    ensures lengths { IfOk result (λ i. AreLong (vec_len i.rows) i.rows.items) }
+    ensures has { IfOk result (λ i. AreValues (F.field field.now) i.rows.items) }
 {
     let mut rows = Vec::new(alloc);
     rows.push(vec![in alloc; field.one(); 1]?)?;
@@ -56,11 +57,11 @@ fn raised_rows<F: Field<Elem = u16>>(
     requires square { length matrix.now ≡ monomials.now.variables * monomials.now.variables }
     requires matrix { All (Has (F.field field.now)) matrix.now }
     requires count { length below.now ≡ monomials.now.below }
-    requires lengths { All (λ r. vec_len r ≡ monomials.now.below) below.now }
-    requires has { All (λ r. All (Has (F.field field.now)) r.items) below.now }
+    requires lengths { AreLong monomials.now.below below.now }
+    requires has { AreValues (F.field field.now) below.now }
     ensures count { IfOk result (λ rs. vec_len rs ≡ vec_len monomials.now.all) }
-    ensures lengths { IfOk result (λ rs. All (λ r. vec_len r ≡ vec_len monomials.now.all) rs.items) }
-    ensures has { IfOk result (λ rs. All (λ r. All (Has (F.field field.now)) r.items) rs.items) }
+    ensures lengths { IfOk result (λ rs. AreLong (vec_len monomials.now.all) rs.items) }
+    ensures has { IfOk result (λ rs. AreValues (F.field field.now) rs.items) }
 {
     let mut rows = Vec::new(alloc);
     for monomial in &monomials.all {
@@ -139,11 +140,11 @@ pub(super) fn equations<F: Field<Elem = u16>>(
     field: &F,
     images: &[Vec<u16>],
 ) -> Result<Vec<Vec<u16>>, Memory>
-    requires lengths { All (λ r. vec_len r ≡ length images.now) images.now }
-    requires has { All (λ r. All (Has (F.field field.now)) r.items) images.now }
+    requires lengths { AreLong (length images.now) images.now }
+    requires has { AreValues (F.field field.now) images.now }
     ensures count { IfOk result (λ rs. vec_len rs ≡ length images.now) }
-    ensures lengths { IfOk result (λ rs. All (λ r. vec_len r ≡ length images.now) rs.items) }
-    ensures has { IfOk result (λ rs. All (λ r. All (Has (F.field field.now)) r.items) rs.items) }
+    ensures lengths { IfOk result (λ rs. AreLong (length images.now) rs.items) }
+    ensures has { IfOk result (λ rs. AreValues (F.field field.now) rs.items) }
 {
     let mut rows = Vec::new(alloc);
     for i in 0..images.len() {
@@ -160,8 +161,8 @@ fn equation<F: Field<Elem = u16>>(
     place: usize,
 ) -> Result<Vec<u16>, Memory>
     requires place { place < length images.now }
-    requires lengths { All (λ r. vec_len r ≡ length images.now) images.now }
-    requires has { All (λ r. All (Has (F.field field.now)) r.items) images.now }
+    requires lengths { AreLong (length images.now) images.now }
+    requires has { AreValues (F.field field.now) images.now }
     ensures length { IfOk result (λ r. vec_len r ≡ length images.now) }
     ensures has { IfOk result (λ r. All (Has (F.field field.now)) r.items) }
 {

@@ -1,5 +1,6 @@
 ghost use Rattle.std.specs.Prelude.{◌≡◌, ◌<◌, All, OnOk, length, vec_len};
 ghost use Rattle.alg_core.specs.Fields.{Has};
+ghost use Rattle.invring_app.specs.Rows.{AreLong, AreValues};
 ghost use Rattle.invring_app.specs.Outputs.{IsLines};
 
 use super::elimination::Echelon;
@@ -21,8 +22,8 @@ pub(super) fn push_line<F: Field<Elem = u16>>(
     requires lead { lead < length monomials.now }
     requires pairs { vec_len echelon.now.columns ≡ vec_len echelon.now.rows }
     requires columns { All (λ c. c < length monomials.now) echelon.now.columns.items }
-    requires lengths { All (λ r. vec_len r ≡ length monomials.now) echelon.now.rows.items }
-    requires has { All (λ r. All (Has (F.field field.now)) r.items) echelon.now.rows.items }
+    requires lengths { AreLong (length monomials.now) echelon.now.rows.items }
+    requires has { AreValues (F.field field.now) echelon.now.rows.items }
     ensures lines { OnOk result (IsLines text.new.items) }
 {
     push_term(alloc, names, 1, &monomials[lead], text)?;
