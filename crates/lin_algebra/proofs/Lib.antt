@@ -9,3 +9,5 @@ pub mod InsertLaws
 pub mod BasisLaws
 pub mod CutLaws
 pub mod ProductLaws
+pub mod FormLaws
+pub mod KernelOf

@@ -10,8 +10,9 @@
 --   IsIdentity R n p    the first n rows of p are those of the identity
 --   IsInverse R n a b   both products of a and b are the identity
 --   IsSolution k a b x  a · x = b
+--   IsKernelVector k a v  a · v = 0, and v is 0 past the columns of a
 --   IsDependent k a j   the column j of a is a combination of the columns before it
-use Rattle.std.specs.Prelude.{◌≡◌, ℕ, zero, suc, ◌*◌, ◌<◌, List, [], ◌∷◌, length, take, drop, map, All, slice_index_or}
+use Rattle.std.specs.Prelude.{◌≡◌, ℕ, zero, suc, ◌*◌, ◌<◌, ◌≤◌, List, [], ◌∷◌, length, take, drop, map, All, slice_index_or}
 use Rattle.std.specs.List.{zip}
 use Rattle.lin_algebra.specs.declared.matrix.Matrix.{Matrix}
 use Rattle.lin_algebra.specs.declared.matrix.Echelon.{Echelon}
@@ -65,6 +66,11 @@ module _ {E : Type 0} (k : FieldOn E) (a : Matrix E) where
   -- a · x = b
   abbrev pub IsSolution : (ℕ → Scalar k) → (ℕ → Scalar k) → Type 0
   IsSolution b x = (i : ℕ) → i < a.rows → dot (scalars k) a.cols (entries k a i) x ≡ b i
+
+  -- a · v = 0, for a vector of as many entries as a has columns
+  pub record IsKernelVector (v : ℕ → Scalar k) : Type 0 where
+    pub past : (j : ℕ) → a.cols ≤ j → v j ≡ (scalars k).zero
+    pub zero : (i : ℕ) → i < a.rows → dot (scalars k) a.cols (entries k a i) v ≡ (scalars k).zero
 
   -- the column j is a combination of the columns before it, with the coefficients c
   abbrev pub IsDependent : ℕ → Type 0

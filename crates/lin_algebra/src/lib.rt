@@ -2,9 +2,11 @@
 #![tactic(auto)]
 
 mod elimination;
+mod forms;
 mod matrix;
 mod products;
 mod rows;
 
+pub use forms::{echelon, kernel};
 pub use matrix::{Echelon, Matrix};
 pub use products::multiply;
