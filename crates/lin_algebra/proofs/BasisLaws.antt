@@ -1,10 +1,10 @@
 -- The steps of elimination on rows of values.
-use Rattle.std.proofs.Common.{◌≡◌, ◌≢◌, ℕ, zero, suc, ◌+◌, ◌<◌, ◌≤◌, List, [], ◌∷◌, ◌++◌, map, length, take, drop, get_or, set, All, Option, Some, IfSome, sym, ap, ap₂, ◌∙◌, refl, arith, subst}
+use Rattle.std.proofs.Common.{◌≡◌, ◌≢◌, ℕ, zero, suc, ◌+◌, ◌<◌, ◌≤◌, inl, inr, List, [], ◌∷◌, ◌++◌, map, length, take, drop, get_or, set, All, Option, Some, IfSome, sym, ap, ap₂, ◌∙◌, refl, arith, subst}
 use Rattle.std.specs.List.{insert, AllByRecursion as Each}
 use Rattle.std.specs.Vec.{with_items}
 use Rattle.std.proofs.lemmas.List.{with_items_is, drop_more, drop_all, get_or_read, get_or-map, map-set, map-append, take-map, drop-map, length-map, ext_get_or, get_or_default, length-take-le, get_or-take}
 use Rattle.std.proofs.lemmas.List.Elements.{All-set, All-from_recursion, recursion_from_All}
-use Rattle.lin_algebra.proofs.EachLaws.{Each_map, Each_of_map}
+use Rattle.lin_algebra.proofs.EachLaws.{In, Each_map, Each_of_map}
 use Rattle.alg_core.specs.Rings.{Ring}
 use Rattle.alg_core.specs.RingLaws as rings
 use Rattle.alg_core.specs.ModuleLaws as modules
@@ -151,3 +151,9 @@ module _ {E : Type 0} (k : FieldOn E) where
 
   pub rows_of_basis_nil : (basis : List (BasisRow E)) → basis ≡ [] → rows_of_basis k basis ≡ []
   rows_of_basis_nil basis e = ap (rows_of_basis k) e
+
+  -- a row of the list is among its vectors
+  pub in_basis_rows : (basis : List (BasisRow E)) (i : ℕ) (x : BasisRow E) → i < length basis → get_or basis i x ≡ x → In (row_of x) (basis_rows k basis)
+  in_basis_rows [] i x inside read = absurd (omega arith)
+  in_basis_rows (e ∷ l) zero x inside read = inl (ap row_of read)
+  in_basis_rows (e ∷ l) (suc i) x inside read = inr (in_basis_rows l i x (omega arith) read)

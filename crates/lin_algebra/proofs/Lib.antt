@@ -11,3 +11,5 @@ pub mod CutLaws
 pub mod ProductLaws
 pub mod FormLaws
 pub mod KernelOf
+pub mod BesideLaws
+pub mod SolutionLaws

@@ -6,7 +6,9 @@ mod forms;
 mod matrix;
 mod products;
 mod rows;
+mod systems;
 
 pub use forms::{echelon, kernel};
 pub use matrix::{Echelon, Matrix};
 pub use products::multiply;
+pub use systems::solve;
