@@ -18,24 +18,19 @@ use Rattle.lin_algebra.proofs.EachLaws.{Each_map, Each_of_map, Each_weaker}
 use Rattle.lin_algebra.proofs.CutLaws.{cut_flat, length_flat}
 use Rattle.lin_algebra.proofs.KernelLaws.{particular_append}
 
-module _ {E : Type 0} where
-  entries_of : BasisRow E → List E
-  entries_of e = e.entries.items
-
-  flat_of_map : (basis : List (BasisRow E)) → flat_map (λ e. e.entries.items) basis ≡ flat_map (λ x. x) (map (λ e. e.entries.items) basis)
+module _ {E : Type 0} (f : BasisRow E → List E) where
+  flat_of_map : (basis : List (BasisRow E)) → flat_map f basis ≡ flat_map (λ x. x) (map f basis)
   flat_of_map [] = refl
-  flat_of_map (e ∷ l) = ap (λ r. e.entries.items ++ r) (flat_of_map l)
+  flat_of_map (e ∷ l) = ap (λ r. f e ++ r) (flat_of_map l)
 
-  lengths : (c : ℕ) (basis : List (BasisRow E)) → All (λ e. length e.entries.items ≡ c) basis → Each (λ r. length r ≡ c) (map (λ e. e.entries.items) basis)
-  lengths c basis h = Each_map (λ (r : List E). length r ≡ c) (λ (e : BasisRow E). e.entries.items) basis (recursion_from_All (λ (e : BasisRow E). length e.entries.items ≡ c) basis h)
+  lengths : (c : ℕ) (basis : List (BasisRow E)) → All (λ e. length (f e) ≡ c) basis → Each (λ r. length r ≡ c) (map f basis)
+  lengths c basis h = Each_map (λ (r : List E). length r ≡ c) f basis (recursion_from_All (λ (e : BasisRow E). length (f e) ≡ c) basis h)
 
-  pub rows_of_flat : (c : ℕ) (basis : List (BasisRow E)) (cells : List E) → All (λ e. length e.entries.items ≡ c) basis → cells ≡ flat_map (λ e. e.entries.items) basis → cut (length basis) c cells ≡ map (λ e. e.entries.items) basis
-  rows_of_flat c basis cells h is =
-      ap₂ (λ n l. cut n c l) (sym (length-map basis (λ (e : BasisRow E). e.entries.items))) (is ∙ flat_of_map basis) ∙ cut_flat c (map (λ e. e.entries.items) basis) (lengths c basis h)
+  pub rows_of_flat : (c : ℕ) (basis : List (BasisRow E)) (cells : List E) → All (λ e. length (f e) ≡ c) basis → cells ≡ flat_map f basis → cut (length basis) c cells ≡ map f basis
+  rows_of_flat c basis cells h is = ap₂ (λ n l. cut n c l) (sym (length-map basis f)) (is ∙ flat_of_map basis) ∙ cut_flat c (map f basis) (lengths c basis h)
 
-  pub whole_of_flat : (c : ℕ) (basis : List (BasisRow E)) (cells : List E) → All (λ e. length e.entries.items ≡ c) basis → cells ≡ flat_map (λ e. e.entries.items) basis → length cells ≡ length basis * c
-  whole_of_flat c basis cells h is =
-      ap length (is ∙ flat_of_map basis) ∙ length_flat c (map (λ e. e.entries.items) basis) (lengths c basis h) ∙ ap (λ n. n * c) (length-map basis (λ (e : BasisRow E). e.entries.items))
+  pub whole_of_flat : (c : ℕ) (basis : List (BasisRow E)) (cells : List E) → All (λ e. length (f e) ≡ c) basis → cells ≡ flat_map f basis → length cells ≡ length basis * c
+  whole_of_flat c basis cells h is = ap length (is ∙ flat_of_map basis) ∙ length_flat c (map f basis) (lengths c basis h) ∙ ap (λ n. n * c) (length-map basis f)
 
 module _ {E : Type 0} (k : FieldOn E) where
   -- one row more of a particular vector
@@ -68,13 +63,13 @@ module _ {E : Type 0} (k : FieldOn E) where
   pub All_of_rows : (P : List E → Type 0) (rs : List (Vec E Global)) (rows : List (List E)) → map (λ r. r.items) rs ≡ rows → Each P rows → All (λ r. P r.items) rs
   All_of_rows P rs rows is h = All-from_recursion (λ (r : Vec E Global). P r.items) rs (Each_of_map P (λ (r : Vec E Global). r.items) rs (subst (Each P) (sym is) h))
 
-  -- the rows of a list in reduced echelon form make a matrix of the field
-  pub IsMatrix_of_basis : (basis : List (BasisRow E)) (m : Matrix E) → All (λ e. IsRow k m.cols e.entries.items) basis → length m.cells.items ≡ m.rows * m.cols → rows_of m ≡ map (λ e. e.entries.items) basis → IsMatrix k m
-  IsMatrix_of_basis basis m h whole is =
+  -- rows of values make a matrix of the field
+  pub IsMatrix_of_basis : (f : BasisRow E → List E) (basis : List (BasisRow E)) (m : Matrix E) → All (λ e. IsRow k m.cols (f e)) basis → length m.cells.items ≡ m.rows * m.cols → rows_of m ≡ map f basis → IsMatrix k m
+  IsMatrix_of_basis f basis m h whole is =
       record {
         whole = whole;
         has = All_of_cut m.rows m.cols m.cells.items whole (subst (Each (λ r. All (Has k) r)) (sym is)
-            (Each_map (λ (r : List E). All (Has k) r) (λ (e : BasisRow E). e.entries.items) basis (Each_weaker (λ (e : BasisRow E). IsRow k m.cols e.entries.items) (λ e. All (Has k) e.entries.items) (λ e r. r.has) basis (recursion_from_All (λ (e : BasisRow E). IsRow k m.cols e.entries.items) basis h))));
+            (Each_map (λ (r : List E). All (Has k) r) f basis (Each_weaker (λ (e : BasisRow E). IsRow k m.cols (f e)) (λ e. All (Has k) (f e)) (λ e r. r.has) basis (recursion_from_All (λ (e : BasisRow E). IsRow k m.cols (f e)) basis h))));
       }
     where
       All_of_cut : (n c : ℕ) (xs : List E) → length xs ≡ n * c → Each (λ r. All (Has k) r) (cut n c xs) → All (Has k) xs

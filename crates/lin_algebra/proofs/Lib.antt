@@ -13,3 +13,5 @@ pub mod FormLaws
 pub mod KernelOf
 pub mod BesideLaws
 pub mod SolutionLaws
+pub mod InverseLaws
+pub mod HalfLaws

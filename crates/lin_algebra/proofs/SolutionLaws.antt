@@ -41,7 +41,7 @@ module _ {K : Type 0} (R : Ring K) where
   pivot_row_at : (l : List (PivotRow K)) → IsReducedEchelon R l → (e : PivotRow K) → In e l → IsPivotRow R e
   pivot_row_at l r e i = Each_at (IsPivotRow R) l (each_pivot_row R l r) e i
 
-  pivot_row_in_span : (l : List (PivotRow K)) (e : PivotRow K) → In e l → InSpan (vectors R) (rows R l) e.1
+  pub pivot_row_in_span : (l : List (PivotRow K)) (e : PivotRow K) → In e l → InSpan (vectors R) (rows R l) e.1
   pivot_row_in_span l e i = Each_at (λ f. InSpan (vectors R) (rows R l) f.1) l (Each_of_map (InSpan (vectors R) (rows R l)) (λ f. f.1) l (span_member (vectors R) (rows R l))) e i
 
   neg_one_not_zero : ¬ (R.one ≡ R.zero) → ¬ (R.neg R.one ≡ R.zero)

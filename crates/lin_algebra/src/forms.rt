@@ -1,4 +1,4 @@
-ghost use Rattle.std.specs.Prelude.{◌≡◌, ℕ, ◌<◌, ◌*◌, ◌↔◌, List, All, length, map, IfOk, vec_len};
+ghost use Rattle.std.specs.Prelude.{◌≡◌, ℕ, ◌+◌, ◌<◌, ◌*◌, ◌↔◌, List, All, drop, length, map, IfOk, vec_len};
 ghost use Rattle.std.specs.List.{zip};
 ghost use Rattle.alg_core.specs.Fields.{Has, Scalar, scalars};
 ghost use Rattle.lin_algebra.specs.Vectors.{IsRow, vector, vectors};
@@ -31,7 +31,7 @@ pub fn echelon<F: Field>(
 {
     let basis = eliminate_matrix(alloc, field, a)?;
     Ok(Echelon {
-        matrix: matrix_of(alloc, a.cols, &basis)?,
+        matrix: matrix_of(alloc, 0, a.cols, &basis)?,
         pivots: pivots_of(alloc, &basis)?,
     })
 }
@@ -51,17 +51,22 @@ fn eliminate_matrix<F: Field>(
     Ok(basis)
 }
 
-/// The rows as a matrix.
-fn matrix_of<E: Copy>(alloc: Global, cols: u64, basis: &[BasisRow<E>]) -> Result<Matrix<E>, Memory>
-    requires rows { All (λ e. length e.entries.items ≡ cols) basis.now }
+/// The entries of the rows from the column `from` on, as a matrix.
+pub(crate) fn matrix_of<E: Copy>(
+    alloc: Global,
+    from: usize,
+    cols: u64,
+    basis: &[BasisRow<E>],
+) -> Result<Matrix<E>, Memory>
+    requires rows { All (λ e. length e.entries.items ≡ from + cols) basis.now }
     ensures whole { IfOk result (λ m. length m.cells.items ≡ m.rows * m.cols) }
     ensures columns { IfOk result (λ m. m.cols ≡ cols) }
     ensures count { IfOk result (λ m. m.rows ≡ length basis.now) }
-    ensures rows { IfOk result (λ m. rows_of m ≡ map (λ e. e.entries.items) basis.now) }
+    ensures rows { IfOk result (λ m. rows_of m ≡ map (λ e. drop from e.entries.items) basis.now) }
 {
     let mut cells = Vec::new(alloc);
     for row in basis {
-        cells.extend_from_slice(&row.entries)?;
+        cells.extend_from_slice(&row.entries[from..])?;
     }
     Ok(Matrix {
         rows: basis.len() as u64,
@@ -101,7 +106,7 @@ pub fn kernel<F: Field>(
         rows.push(kernel_row(alloc, field, &basis, n, j)?)?;
     }
     let kernel = eliminate(alloc, field, n, rows)?;
-    let matrix = matrix_of(alloc, a.cols, &kernel)?;
+    let matrix = matrix_of(alloc, 0, a.cols, &kernel)?;
     Ok(matrix)
 }
 

@@ -3,12 +3,14 @@
 
 mod elimination;
 mod forms;
+mod inverses;
 mod matrix;
 mod products;
 mod rows;
 mod systems;
 
 pub use forms::{echelon, kernel};
+pub use inverses::inverse;
 pub use matrix::{Echelon, Matrix};
 pub use products::multiply;
 pub use systems::solve;

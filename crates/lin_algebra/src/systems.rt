@@ -47,7 +47,7 @@ pub fn solve<F: Field>(
 }
 
 /// The reduced echelon list of the rows of `a`, each with the row of `right` after it.
-fn eliminate_beside<F: Field>(
+pub(crate) fn eliminate_beside<F: Field>(
     alloc: Global,
     field: &F,
     a: &Matrix<F::Elem>,

@@ -13,7 +13,7 @@ returns-clause-matrix g c =
     let k = g.F.Field.field c.args.field.now in
     let basis = c.in_ok-basis.basis.items in
     let made = c.in_ok-matrix_of.ensures in
-    IsMatrix_of_basis k basis c.in_ok-matrix_of.field-0 (subst (λ n. All (λ (e : BasisRow g.row.F-Elem.Denot). IsRow k n e.entries.items) basis) (sym made.columns) c.in_ok-basis.ensures.basis.rows) made.whole (made.rows ∙ ap (map (λ e. e.entries.items)) c.deref.ensures.value)
+    IsMatrix_of_basis k (λ e. e.entries.items) basis c.in_ok-matrix_of.field-0 (subst (λ n. All (λ (e : BasisRow g.row.F-Elem.Denot). IsRow k n e.entries.items) basis) (sym made.columns) c.in_ok-basis.ensures.basis.rows) made.whole (made.rows ∙ ap (map (λ e. e.entries.items)) c.deref.ensures.value)
 
 pub returns-clause-echelon : goal.returns-clause-echelon
 returns-clause-echelon g c =

@@ -32,7 +32,7 @@ returns-clause-matrix g c =
     let k = g.F.Field.field c.args.field.now in
     let basis = c.in_ok-kernel.kernel.items in
     let made = c.in_ok-matrix.ensures in
-    IsMatrix_of_basis k basis c.in_ok-matrix.matrix (subst (λ n. All (λ (e : BasisRow g.row.F-Elem.Denot). IsRow k n e.entries.items) basis) (sym made.columns) c.in_ok-kernel.ensures.basis.rows) made.whole (made.rows ∙ ap (map (λ e. e.entries.items)) c.deref-2.ensures.value)
+    IsMatrix_of_basis k (λ e. e.entries.items) basis c.in_ok-matrix.matrix (subst (λ n. All (λ (e : BasisRow g.row.F-Elem.Denot). IsRow k n e.entries.items) basis) (sym made.columns) c.in_ok-kernel.ensures.basis.rows) made.whole (made.rows ∙ ap (map (λ e. e.entries.items)) c.deref-2.ensures.value)
 
 pub returns-clause-echelon : goal.returns-clause-echelon
 returns-clause-echelon g c =
