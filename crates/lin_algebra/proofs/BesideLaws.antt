@@ -69,7 +69,7 @@ module _ {E : Type 0} (k : FieldOn E) where
       ap (map (vector k)) (sym (take_all a.rows (joined (rows_of a) (rows_of c)) (omega (arith, count, whole))))
       ∙ listing_of_list (vector k) (joined (rows_of a) (rows_of c)) [] a.rows (omega (arith, count, whole))
       ∙ listing_same _ _ a.rows (λ i b. ap (vector k) (joined_at (rows_of a) (rows_of c) i (omega (arith, count)) (omega (arith, right_count, same)))
-          ∙ vector_append a.cols (get_or (rows_of a) i []) (get_or (rows_of c) i []) (IsRow_row k a i (get_or (rows_of a) i []) h b refl).count)
+      ∙ vector_append a.cols (get_or (rows_of a) i []) (get_or (rows_of c) i []) (IsRow_row k a i (get_or (rows_of a) i []) h b refl).count)
 
   -- a list of values as a column
   pub column_entries : (m : Matrix E) (bs : List E) (i : ℕ) → m.cols ≡ 1 → m.cells.items ≡ bs → i < m.rows → entries k m i 0 ≡ vector k bs i

@@ -10,8 +10,7 @@ use Rattle.alg_core.specs.ModuleLaws as modules
 use Rattle.lin_algebra.specs.Vectors.{vectors, dot, unit}
 use Rattle.lin_algebra.specs.Spans.{InSpan, SameSpan}
 use Rattle.lin_algebra.specs.Matrices.{beside, product, IsIdentity, IsInverse}
-use Rattle.lin_algebra.specs.Echelons.{PivotRow, IsPivotRow, Precedes, IsReducedEchelon}
-use Rattle.lin_algebra.specs.Bases.{rows}
+use Rattle.lin_algebra.specs.Echelons.{PivotRow, rows, IsPivotRow, Precedes, IsReducedEchelon}
 use Rattle.lin_algebra.proofs.EachLaws.{In, Each_at}
 use Rattle.lin_algebra.proofs.SpanLaws.{span_ind, SameSpan_from}
 use Rattle.lin_algebra.proofs.DotLaws.{dot_same, dot_zero, dot_add, dot_act, dot_comm, dot_unit, dot_unit_past, unit_at, unit_other, unit_comm}
@@ -65,8 +64,8 @@ module _ {K : Type 0} (R : Ring K) where
         (λ c u h. ap (R.◌*◌ c) h ∙ sym (dot_act R n c (λ t. u (n + t)) (λ t. a t j)))
         (listing augmented n)
         (Each_listing (λ z. z j ≡ dot R n (λ t. z (n + t)) (λ t. a t j)) augmented n (λ i p.
-            beside_left n (a i) (unit R i) j b
-            ∙ sym (dot_same R n (λ t. augmented i (n + t)) (unit R i) _ (λ t. a t j) (λ t _. right i t) (λ _ _. refl) ∙ dot_comm R n (unit R i) (λ t. a t j) ∙ dot_unit R n (λ t. a t j) i p)))
+        beside_left n (a i) (unit R i) j b
+        ∙ sym (dot_same R n (λ t. augmented i (n + t)) (unit R i) _ (λ t. a t j) (λ t _. right i t) (λ _ _. refl) ∙ dot_comm R n (unit R i) (λ t. a t j) ∙ dot_unit R n (λ t. a t j) i p)))
       where
         right : (i t : ℕ) → augmented i (n + t) ≡ unit R i t
         right i t = beside_right n (a i) (unit R i) (n + t) (omega arith) ∙ ap (unit R i) (omega arith)
@@ -153,8 +152,10 @@ module _ {K : Type 0} (R : Ring K) where
 
         wanted_is : l ≡ listing wanted n
         wanted_is = reduced_unique R one_not_zero l (listing wanted n) r wanted_reduced
-            (λ v. ( λ h. subst (λ m. InSpan (vectors R) m v) (sym (map_listing (λ e. e.1) wanted n)) ((wanted_span v).1 ((s v).0 h))
-                  , λ h. (s v).1 ((wanted_span v).0 (subst (λ m. InSpan (vectors R) m v) (map_listing (λ e. e.1) wanted n) h)) ))
+            (λ v. (
+              λ h. subst (λ m. InSpan (vectors R) m v) (sym (map_listing (λ e. e.1) wanted n)) ((wanted_span v).1 ((s v).0 h)),
+              λ h. (s v).1 ((wanted_span v).0 (subst (λ m. InSpan (vectors R) m v) (map_listing (λ e. e.1) wanted n) h)),
+            ))
 
         pub inverse_count : length l ≡ n
         inverse_count = ap length wanted_is ∙ length_listing wanted n

@@ -7,12 +7,11 @@ use Rattle.alg_core.specs.RingLaws as rings
 use Rattle.alg_core.specs.ModuleLaws as modules
 use Rattle.lin_algebra.specs.Vectors.{vectors, dot, unit}
 use Rattle.lin_algebra.specs.Spans.{InSpan, SameSpan}
-use Rattle.lin_algebra.specs.Echelons.{PivotRow, IsReducedEchelon}
+use Rattle.lin_algebra.specs.Echelons.{PivotRow, rows, IsReducedEchelon}
 use Rattle.lin_algebra.proofs.EachLaws.{Each_both, Each_of_map}
 use Rattle.lin_algebra.proofs.SpanLaws.{span_ind, span_zero, span_add, span_act}
 use Rattle.lin_algebra.proofs.DotLaws.{dot_zero, dot_add, dot_act, dot_comm, dot_add_right, dot_act_right, dot_unit, dot_unit_past, dot_same, unit_comm, unit_other}
 use Rattle.lin_algebra.proofs.EchelonLaws.{by_pivots, by_pivots_span}
-use Rattle.lin_algebra.specs.Bases.{rows}
 use Rattle.lin_algebra.specs.Kernels.{particular, kernel_vector}
 
 module _ {K : Type 0} (R : Ring K) where

@@ -9,8 +9,7 @@ use Rattle.lin_algebra.specs.declared.matrix.Matrix.{Matrix}
 use Rattle.lin_algebra.specs.Vectors.{vectors, vector, dot, IsRow}
 use Rattle.lin_algebra.specs.Spans.{InSpan, SameSpan}
 use Rattle.lin_algebra.specs.Matrices.{rows_of, entries, vectors_of, IsMatrix, IsKernelVector}
-use Rattle.lin_algebra.specs.Echelons.{PivotRow, IsReducedEchelon}
-use Rattle.lin_algebra.specs.Bases.{rows}
+use Rattle.lin_algebra.specs.Echelons.{PivotRow, rows, IsReducedEchelon}
 use Rattle.lin_algebra.specs.Kernels.{kernel_vector}
 use Rattle.lin_algebra.proofs.EachLaws.{Each_map, Each_of_map, Each_weaker, Each_append}
 use Rattle.lin_algebra.proofs.SpanLaws.{span_ind, span_head, span_member, span_append_left, span_append_right}
@@ -50,7 +49,7 @@ module _ {E : Type 0} (k : FieldOn E) where
       past = λ j p. span_past b b_is v h j (omega arith);
       zero = λ i p. dot_span_right (scalars k) a.cols (entries k a i) (listing (λ j. kernel_vector (scalars k) j l) a.cols)
           (Each_listing (λ w. dot (scalars k) a.cols (entries k a i) w ≡ (scalars k).zero) (λ j. kernel_vector (scalars k) j l) a.cols
-              (λ j q. dot_kernel_vector (scalars k) a.cols (entries k a i) j l q inside r ((s (entries k a i)).1 (entries_in_span a i p))))
+          (λ j q. dot_kernel_vector (scalars k) a.cols (entries k a i) j l q inside r ((s (entries k a i)).1 (entries_in_span a i p))))
           v ((t v).0 h);
     }
 
@@ -58,7 +57,7 @@ module _ {E : Type 0} (k : FieldOn E) where
     kernel_back v h =
         let each_row : Each (λ w. dot (scalars k) a.cols w v ≡ (scalars k).zero) (vectors_of k a) = subst (Each (λ w. dot (scalars k) a.cols w v ≡ (scalars k).zero)) (sym (vectors_of_listing k a)) (Each_listing (λ w. dot (scalars k) a.cols w v ≡ (scalars k).zero) (entries k a) a.rows h.zero) in
         let each_pivot_row : Each (λ e. dot (scalars k) a.cols e.1 v ≡ (scalars k).zero) l = Each_of_map (λ w. dot (scalars k) a.cols w v ≡ (scalars k).zero) (λ (e : PivotRow (Scalar k)). e.1) l
-              (Each_weaker (InSpan (vectors (scalars k)) (rows (scalars k) l)) (λ w. dot (scalars k) a.cols w v ≡ (scalars k).zero) (λ w q. dot_span (scalars k) a.cols v (vectors_of k a) each_row w ((s w).0 q)) (rows (scalars k) l) (span_member (vectors (scalars k)) (rows (scalars k) l))) in
+        (Each_weaker (InSpan (vectors (scalars k)) (rows (scalars k) l)) (λ w. dot (scalars k) a.cols w v ≡ (scalars k).zero) (λ w q. dot_span (scalars k) a.cols v (vectors_of k a) each_row w ((s w).0 q)) (rows (scalars k) l) (span_member (vectors (scalars k)) (rows (scalars k) l))) in
         subst (InSpan (vectors (scalars k)) (vectors_of k b)) (λ x i. kernel_combination (scalars k) a.cols v l h.past each_pivot_row i x)
         (span_total (scalars k) (vectors_of k b) a.cols v (λ j. kernel_vector (scalars k) j l) (λ j q. (t (kernel_vector (scalars k) j l)).1 (span_listing (vectors (scalars k)) (λ j. kernel_vector (scalars k) j l) a.cols j q)))
 

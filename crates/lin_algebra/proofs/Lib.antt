@@ -15,3 +15,4 @@ pub mod BesideLaws
 pub mod SolutionLaws
 pub mod InverseLaws
 pub mod HalfLaws
+pub mod UniqueLaws

@@ -7,8 +7,7 @@ use Rattle.alg_core.specs.RingLaws as rings
 use Rattle.lin_algebra.specs.Vectors.{vectors, dot, unit}
 use Rattle.lin_algebra.specs.Spans.{InSpan, SameSpan}
 use Rattle.lin_algebra.specs.Matrices.{beside}
-use Rattle.lin_algebra.specs.Echelons.{PivotRow, IsPivotRow, IsReducedEchelon}
-use Rattle.lin_algebra.specs.Bases.{rows}
+use Rattle.lin_algebra.specs.Echelons.{PivotRow, rows, IsPivotRow, IsReducedEchelon}
 use Rattle.lin_algebra.specs.Kernels.{particular}
 use Rattle.lin_algebra.proofs.EachLaws.{In, Each_at, Each_of_map}
 use Rattle.lin_algebra.proofs.SpanLaws.{span_ind, span_member}
@@ -92,7 +91,7 @@ module _ {K : Type 0} (R : Ring K) where
             (λ d u h. ap (R.◌*◌ d) h ∙ sym (dot_act R j d u c))
             (listing (λ i. beside n (a i) (b i)) m)
             (Each_listing (λ u. u j ≡ dot R j u c) (λ i. beside n (a i) (b i)) m (λ i q. beside_left n (a i) (b i) j (omega (arith, p, below)) ∙ dependent i q
-                ∙ dot_same R j (a i) (beside n (a i) (b i)) c c (λ t w. sym (beside_left n (a i) (b i) t (omega (arith, p, below)))) (λ t w. refl)))
+            ∙ dot_same R j (a i) (beside n (a i) (b i)) c c (λ t w. sym (beside_left n (a i) (b i) t (omega (arith, p, below)))) (λ t w. refl)))
             e.1 ((s e.1).0 (pivot_row_in_span l e i))
 
         go : ((e : PivotRow K) × In e l × (e.0 ≡ j)) ⊎ Each (λ e. e.0 ≢ j) l → particular R n l j ≡ R.zero

@@ -49,7 +49,11 @@ impl<E: Copy> Matrix<E> {
     }
 
     /// A copy of each row, with the row of another matrix after it.
-    pub(crate) fn rows_beside(&self, alloc: Global, right: &Matrix<E>) -> Result<Vec<Vec<E>>, Memory>
+    pub(crate) fn rows_beside(
+        &self,
+        alloc: Global,
+        right: &Matrix<E>,
+    ) -> Result<Vec<Vec<E>>, Memory>
         requires whole { length self.now.cells.items ≡ self.now.rows * self.now.cols }
         requires right_whole { length right.now.cells.items ≡ right.now.rows * right.now.cols }
         requires same { right.now.rows ≡ self.now.rows }

@@ -37,10 +37,11 @@ returns-clause-matrix g c =
 pub returns-clause-echelon : goal.returns-clause-echelon
 returns-clause-echelon g c =
     let k = g.F.Field.field c.args.field.now in
-    let basis = c.in_ok-kernel.kernel.items in
-    ( map (λ e. e.pivot) basis
-    , length-map basis (λ e. e.pivot) ∙ sym (c.in_ok-matrix.ensures.count ∙ ap length c.deref-2.ensures.value)
-    , subst (IsReducedEchelon (scalars k)) (sym (pivot_rows_made k basis c.in_ok-matrix.matrix (map (λ e. e.pivot) basis) refl (c.in_ok-matrix.ensures.rows ∙ ap (map (λ e. e.entries.items)) c.deref-2.ensures.value))) c.in_ok-kernel.ensures.basis.reduced )
+    let basis = c.in_ok-kernel.kernel.items in (
+      map (λ e. e.pivot) basis,
+      length-map basis (λ e. e.pivot) ∙ sym (c.in_ok-matrix.ensures.count ∙ ap length c.deref-2.ensures.value),
+      subst (IsReducedEchelon (scalars k)) (sym (pivot_rows_made k basis c.in_ok-matrix.matrix (map (λ e. e.pivot) basis) refl (c.in_ok-matrix.ensures.rows ∙ ap (map (λ e. e.entries.items)) c.deref-2.ensures.value))) c.in_ok-kernel.ensures.basis.reduced,
+    )
 
 pub returns-clause-kernel : goal.returns-clause-kernel
 returns-clause-kernel g c =

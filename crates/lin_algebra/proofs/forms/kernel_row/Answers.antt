@@ -14,4 +14,4 @@ returns-clause-is g c =
     let once = with_items_is row c.scale.new.row (omega (arith, whole)) in
     let twice = with_items_is (with_items row c.scale.new.row) c.add_at.new.row (omega (arith, whole)) in
     ap (vector k) twice ∙ kernel_vector_made k (basis_rows k c.args.basis.now) c.args.j c.neg.result c.one-2.result (vector k c.add_at.new.row) (vector k c.deref_mut-2.result.now) (vector k c.deref_mut.result.now)
-        c.one-2.ensures.is (c.neg.ensures.is ∙ ap k.neg c.one.ensures.is) (ap (vector k) c.deref_mut.ensures.value ∙ c.in_ok-row.ensures.is) (ap (vector k) (c.deref_mut-2.ensures.value ∙ once) ∙ c.scale.ensures.multiple) c.add_at.ensures.sum
+    c.one-2.ensures.is (c.neg.ensures.is ∙ ap k.neg c.one.ensures.is) (ap (vector k) c.deref_mut.ensures.value ∙ c.in_ok-row.ensures.is) (ap (vector k) (c.deref_mut-2.ensures.value ∙ once) ∙ c.scale.ensures.multiple) c.add_at.ensures.sum

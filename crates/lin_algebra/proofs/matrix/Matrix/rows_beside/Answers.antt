@@ -13,7 +13,7 @@ loop-i-preserved g c =
     let right_count = length_cut r.rows r.cols r.cells.items in
     let whole = length_joined (rows_of m) (rows_of r) in
     listed_more (λ r. r.items) c.loop-i.rows.items c.push.new.self.items c.extend_from_slice.new.self (joined (rows_of m) (rows_of r)) c.loop-i.i [] (omega (arith, count, whole)) c.in_ok-push.ensures.items c.loop-i.invariant
-        (c.in_ok-extend_from_slice.ensures.items ∙ ap₂ ◌++◌ (c.in_ok-both.ensures.items ∙ c.row.ensures.is) c.row-after.ensures.is ∙ sym (joined_at (rows_of m) (rows_of r) c.loop-i.i (omega (arith, count)) (omega (arith, right_count, c.requires.same))))
+    (c.in_ok-extend_from_slice.ensures.items ∙ ap₂ ◌++◌ (c.in_ok-both.ensures.items ∙ c.row.ensures.is) c.row-after.ensures.is ∙ sym (joined_at (rows_of m) (rows_of r) c.loop-i.i (omega (arith, count)) (omega (arith, right_count, c.requires.same))))
 
 pub returns : goal.returns
 returns g c =
