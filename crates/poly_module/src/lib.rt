@@ -4,6 +4,7 @@
 
 mod degrees;
 mod greatest;
+mod laws;
 mod merge;
 mod multiple;
 mod product;
@@ -13,6 +14,10 @@ mod whole;
 
 pub use degrees::{degree, is_homogeneous};
 pub use greatest::lead;
+pub use laws::{
+    combinations, echelon_lists, form_degrees, greedy_choices, module_elements, reduced_bases,
+    selections, substitutions, vector_degrees, vector_products,
+};
 pub use merge::{add, sub};
 pub use multiple::{mul_term, scale};
 pub use product::mul;
