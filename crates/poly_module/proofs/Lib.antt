@@ -18,3 +18,6 @@ pub mod EchelonLists
 pub mod Elimination
 pub mod Echelon
 pub mod CombinationLaws
+pub mod MarkValues
+pub mod Exchange
+pub mod OverSpans

@@ -1,9 +1,10 @@
-ghost use Rattle.std.specs.Prelude.{◌≡◌, ◌<◌, ◌+◌, ℕ, List, map, length, Bool, true};
+ghost use Rattle.std.specs.Prelude.{◌≡◌, ◌<◌, ◌≤◌, ◌+◌, ℕ, List, ◌++◌, map, length, Bool, true};
 ghost use Rattle.alg_core.specs.Rings.{Homomorphism};
 ghost use Rattle.alg_core.specs.Fields.{Scalar, scalars};
 ghost use Rattle.alg_core.specs.Monomials.{Mon, monomials};
 ghost use Rattle.alg_core.specs.Keys.{Key, keys};
 ghost use Rattle.alg_core.specs.KeyOrders.{OrderOn};
+ghost use Rattle.alg_core.specs.Lists.{In};
 ghost use Rattle.alg_core.specs.Vectors.{Vect, vectors, coef_at, plus, zero_vector, scale, shift};
 ghost use Rattle.alg_core.specs.Spaces.{over};
 ghost use Rattle.alg_core.specs.SpaceOrder.{key_order};
@@ -16,7 +17,7 @@ ghost use Rattle.poly_module.specs.Degrees.{IsGraded, parts_below, IsHomogeneous
 ghost use Rattle.poly_module.specs.Forms.{key_weight, IsForm, form_part, AreForms};
 ghost use Rattle.poly_module.specs.Modules.{IsSubspace, InModule, summands, listed, IsBasis, LeadBy};
 ghost use Rattle.poly_module.specs.ReducedLists.{FitsOrder, IsReducedBasis};
-ghost use Rattle.poly_module.specs.Spans.{combine, Greedy};
+ghost use Rattle.poly_module.specs.Spans.{combine, Independent, Greedy};
 ghost use Rattle.poly_module.specs.Echelons.{Spans, IsEchelon};
 ghost use Rattle.poly_module.specs.Combinations.{mark_value, term_value, combination_value, Over, combination_degree};
 
@@ -118,6 +119,15 @@ pub fn echelon_lists<F: Field, O: TermOrder>(_space: &Space<F, O>)
         × ((w : Vect k) (t : Key) → Spans k vs w → LeadBy k o w t → coef_at k g t ≡ (scalars k).zero) }
 {}
 
+/// The reduced echelon list of a span is independent, and independent lists with the same span have the
+/// same length.
+pub fn independent_lists<F: Field, O: TermOrder>(_space: &Space<F, O>)
+    ensures echelon { let k = F.field _space.now.field in (o : OrderOn Key) (vs ws : List (Vect k))
+        → IsEchelon k o (Spans k vs) ws → Independent (vectors k) ws }
+    ensures length { let k = F.field _space.now.field in (us ws : List (Vect k)) → Independent (vectors k) us → Independent (vectors k) ws
+        → ((u : Vect k) → In u us → Spans k ws u) → ((w : Vect k) → In w ws → Spans k us w) → length us ≡ length ws }
+{}
+
 /// Of all combinations of a list of vectors with one sum just one gives the coefficient 0 to each
 /// member that lies in the span of those before it.
 pub fn greedy_choices<F: Field, O: TermOrder>(_space: &Space<F, O>)
@@ -146,4 +156,28 @@ pub fn combinations<F: Field>(_field: &F)
         → (f : Vect k) → Over k θ S f → Over k θ T f }
     ensures part { let k = F.field _field.now in (ws ds es : List ℕ) (θ S : List (Vect k)) → AreForms k ws ds θ → AreForms k ws es S
         → (d : ℕ) (f : Vect k) → Over k θ S f → Over k θ S (form_part k ws d f) }
+{}
+
+/// A polynomial in the variables is its own value, a mark has the polynomial of its place as value, and
+/// over forms the value of a homogeneous polynomial is a form of its degree.
+pub fn mark_values<F: Field>(_field: &F)
+    ensures variables { let k = F.field _field.now in (n : ℕ) (θ : List (Vect k)) (u : Vect k) → IsPolynomial k u → InVariables k n u
+        → mark_value k n θ u ≡ u }
+    ensures mark { let k = F.field _field.now in (n : ℕ) (θ : List (Vect k)) (j : ℕ)
+        → mark_value k n θ (variable_vector k (n + j)) ≡ image (vector_ring k) θ j }
+    ensures degree { let k = F.field _field.now in (ws ds : List ℕ) (θ : List (Vect k)) → AreForms k ws ds θ → (d : ℕ) (u : Vect k)
+        → IsGraded k (key_weight (ws ++ ds)) d u → InVariables k (length ws + length θ) u → IsForm k ws d (mark_value k (length ws) θ u) }
+{}
+
+/// Over forms, a form is a combination exactly where it lies in the span of the values of the terms of
+/// its degree, of which L is a list.
+pub fn combinations_in_degree<F: Field, O: TermOrder>(_space: &Space<F, O>)
+    ensures span { let k = F.field _space.now.field in (θ S : List (Vect k)) (ws ds es : List ℕ) → AreForms k ws ds θ → AreForms k ws es S
+        → (d : ℕ) (L : List Key)
+        → ((t : Key) → length t.1.0 ≤ length θ → t.0 < length S → combination_degree ds es t ≡ d → In t L)
+        → ((t : Key) → In t L → (length t.1.0 ≤ length θ) × (t.0 < length S))
+        → (f : Vect k) → IsForm k ws d f → Over k θ S f → Spans k (map (term_value k θ S) L) f }
+    ensures over { let k = F.field _space.now.field in (θ S : List (Vect k)) (L : List Key)
+        → ((t : Key) → In t L → (length t.1.0 ≤ length θ) × (t.0 < length S))
+        → (f : Vect k) → Spans k (map (term_value k θ S) L) f → Over k θ S f }
 {}
