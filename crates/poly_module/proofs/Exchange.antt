@@ -1,12 +1,11 @@
 -- Independent lists: one in the span of another is not longer, and two with the same span have the same length.
-use Rattle.std.proofs.Common.{◌≡◌, ◌⊎◌, inl, inr, ℕ, zero, suc, ◌+◌, ◌≤◌, List, [], ◌∷◌, ◌++◌, length, get_or, sym, ap, ap₂, ◌∙◌, refl, subst, arith}
+use Rattle.std.proofs.Common.{◌≡◌, ◌⊎◌, inl, inr, suc, ◌+◌, ◌≤◌, List, [], ◌∷◌, ◌++◌, length, sym, ap, ap₂, ◌∙◌, refl, subst, arith}
 use Rattle.std.proofs.lemmas.List.{length-append}
 use Rattle.alg_core.specs.Rings.{Ring, Module, IsField}
-use Rattle.alg_core.specs.RingLaws as rings
 use Rattle.alg_core.specs.ModuleLaws as modules
 use Rattle.alg_core.specs.Lists.{In}
 use Rattle.poly_module.specs.Spans.{combine, InSpan, Independent}
-use Rattle.poly_module.proofs.SpanLaws.{span_zero, span_add, span_act, span_minus, span_member, span_within, span_parts, span_nothing}
+use Rattle.poly_module.proofs.SpanLaws.{span_add, span_act, span_minus, span_member, span_within, span_parts}
 
 in_left : {A : Type 0} (x : A) (l l' : List A) → In x l → In x (l ++ l')
 in_left x [] l' h = absurd h

@@ -21,3 +21,4 @@ pub mod CombinationLaws
 pub mod MarkValues
 pub mod Exchange
 pub mod OverSpans
+pub mod FittingKeys

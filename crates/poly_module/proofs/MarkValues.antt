@@ -1,5 +1,5 @@
 -- Values of polynomials in variables and marks: polynomials in the variables stay, each mark has its value, degrees are kept.
-use Rattle.std.proofs.Common.{◌≡◌, ℕ, zero, suc, ◌+◌, ◌*◌, ◌<◌, ◌≤◌, List, [], ◌∷◌, ◌++◌, length, sym, ap, ap₂, ◌∙◌, refl, subst, append_assoc, append-nil, arith}
+use Rattle.std.proofs.Common.{◌≡◌, ℕ, zero, suc, ◌+◌, ◌<◌, List, [], ◌∷◌, ◌++◌, length, sym, ap, ◌∙◌, refl, subst, append_assoc, arith}
 use Rattle.std.proofs.lemmas.List.{length-append}
 use Rattle.alg_core.specs.Rings.{Ring}
 use Rattle.alg_core.specs.Fields.{FieldOn}
@@ -8,9 +8,9 @@ use Rattle.alg_core.specs.SpaceGrading.{weight}
 use Rattle.alg_core.specs.Vectors.{Vect}
 use Rattle.poly_module.specs.MonomialVariables.{after_zeros, variable}
 use Rattle.poly_module.specs.Polynomials.{vector_ring}
-use Rattle.poly_module.specs.Substitutions.{image, substitute, substitute_variable, variable_vector}
+use Rattle.poly_module.specs.Substitutions.{image, substitute_variable, variable_vector}
 use Rattle.poly_module.specs.Parts.{IsPolynomial, InVariables, supp_single}
-use Rattle.poly_module.specs.Variables.{variables, variables_from, variables_image, length_variables, length_variables_from, substitute_fixed}
+use Rattle.poly_module.specs.Variables.{variables, variables_from, variables_image, length_variables, substitute_fixed}
 use Rattle.poly_module.specs.Degrees.{IsGraded}
 use Rattle.poly_module.specs.Forms.{key_weight, OfDegree, IsForm, AreForms, form_substitute}
 use Rattle.poly_module.specs.Combinations.{mark_value}

@@ -1,5 +1,5 @@
 -- In one degree: a form is a combination over forms exactly where it lies in the span of the values of the terms of its degree.
-use Rattle.std.proofs.Common.{◌≡◌, inl, inr, ℕ, ◌<◌, ◌≤◌, List, [], ◌∷◌, map, length, sym, ap, ap₂, ◌∙◌, refl, subst}
+use Rattle.std.proofs.Common.{◌≡◌, inl, inr, ℕ, ◌<◌, ◌≤◌, List, [], ◌∷◌, map, length, sym, ap, ◌∙◌, refl, subst}
 use Rattle.alg_core.specs.Fields.{FieldOn, Scalar, scalars, is_field}
 use Rattle.alg_core.specs.FormalSums.{FormalSum}
 use Rattle.alg_core.specs.FreeModules.{class, class_cons, class_nothing}
@@ -10,10 +10,10 @@ use Rattle.alg_core.specs.Lists.{In, map_in}
 use Rattle.alg_core.specs.Vectors.{Vect, vectors, plus, zero_vector}
 use Rattle.poly_module.specs.Polynomials.{single_vector}
 use Rattle.poly_module.specs.Parts.{Supp, supp_single}
-use Rattle.poly_module.specs.Degrees.{IsGraded, graded_part, graded_part_supp, graded_part_graded, graded_part_all}
+use Rattle.poly_module.specs.Degrees.{graded_part, graded_part_supp, graded_part_graded, graded_part_all}
 use Rattle.poly_module.specs.Forms.{key_weight, IsForm, AreForms, form_part}
 use Rattle.poly_module.specs.Echelons.{Spans}
-use Rattle.poly_module.specs.Combinations.{combination_degree, term_value, combination_value, IsCombination, Over}
+use Rattle.poly_module.specs.Combinations.{combination_degree, term_value, combination_value, Over}
 use Rattle.poly_module.proofs.SpanLaws.{span_zero, span_add, span_act, span_member, span_ind}
 use Rattle.poly_module.proofs.ModuleElements.{terms_supp}
 use Rattle.poly_module.proofs.CombinationLaws.{combination_value_linear, combination_value_zero, combination_value_single, combination_value_part, over_zero, over_plus, over_act}
@@ -46,8 +46,8 @@ module _ {E : Type 0} (k : FieldOn E) (o : OrderOn Key) (θ S : List (Vect k)) w
       member (t ∷ L) places w (inr i) = member L (λ s j. places s (inr j)) w i
 
   module _ (ws ds es : List ℕ) (h : AreForms k ws ds θ) (g : AreForms k ws es S) (d : ℕ) (L : List Key)
-    (has : (t : Key) → length t.1.0 ≤ length θ → t.0 < length S → combination_degree ds es t ≡ d → In t L)
-    (places : (t : Key) → In t L → (length t.1.0 ≤ length θ) × (t.0 < length S)) where
+      (has : (t : Key) → length t.1.0 ≤ length θ → t.0 < length S → combination_degree ds es t ≡ d → In t L)
+      (places : (t : Key) → In t L → (length t.1.0 ≤ length θ) × (t.0 < length S)) where
     -- where L lists the terms of degree d of combinations
     pub over_span : (f : Vect k) → IsForm k ws d f → Over k θ S f → Spans k (term_values L) f
     over_span f form a =

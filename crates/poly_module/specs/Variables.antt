@@ -1,6 +1,7 @@
 -- Substitutions that agree on variables or leave them alone, and what the keys of a value are.
 --
---   variables k n     the first n variables, as polynomials
+--   variables_from k i n   n variables, from the i-th on, as polynomials
+--   variables k n          the first n variables
 use Rattle.std.specs.Prelude.{◌≡◌, ℕ, zero, suc, ◌+◌, ◌<◌, ◌≤◌, List, [], ◌∷◌, length}
 use Rattle.std.proofs.Common.{inl, inr}
 use mathlib.Core.Path.{sym, ap, ap₂, ◌∙◌, refl, subst}
@@ -94,11 +95,12 @@ pub length_one : (n : ℕ) → length monomials.one.0 ≤ n
 length_one n = length_mon n monomials.one (λ i l. exponent_one i)
 
 module _ {E : Type 0} (k : FieldOn E) where
-  -- the first n variables
+  -- n variables, from the i-th on
   unfoldable pub variables_from : ℕ → ℕ → List (Vect k)
   variables_from i zero = []
   variables_from i (suc n) = variable_vector k i ∷ variables_from (suc i) n
 
+  -- the first n variables
   unfoldable pub variables : ℕ → List (Vect k)
   variables n = variables_from 0 n
 
