@@ -1,10 +1,10 @@
 -- Reading one thing after the other, as a loop does: what was read before, and what is still read.
-use Rattle.std.proofs.Common.{◌≡◌, ℕ, zero, suc, ◌-◌, ◌+◌, ◌≤◌, ◌<◌, List, [], ◌∷◌, ◌++◌, Some, None, refl, sym, ap, subst, ◌∙◌, append_assoc, append-nil, arith}
+use Rattle.std.proofs.Common.{◌≡◌, ℕ, suc, ◌-◌, ◌+◌, ◌≤◌, ◌<◌, List, [], ◌∷◌, ◌++◌, Some, None, refl, sym, ap, subst, ◌∙◌, append_assoc, append-nil, arith}
 use Rattle.std.specs.Prelude.{Option, codes}
 use Rattle.std.specs.Prelude.{Result, Ok, Err, IsErrAnd}
 use Rattle.invring_app.specs.declared.fault.ReadError.{ReadError}
 use Rattle.invring_app.specs.declared.fault.ReadError.TheVariants as errors
-use Rattle.invring_app.specs.Reading.{◌>>=◌, Fails, Gives, after, number_at, names_at, more_numbers_at, numbers_at}
+use Rattle.invring_app.specs.Reading.{◌>>=◌, Fails, Gives, after, number_at, names_at, more_numbers_at}
 
 -- a result that says that the bytes are malformed, where nothing is read
 pub Gives-malformed : {X Y : Type 0} (view : X → Y) (r : Result X ReadError) (read : Option Y) → IsErrAnd r (λ e. e ≡ errors.Malformed) → read ≡ None → Gives view r read

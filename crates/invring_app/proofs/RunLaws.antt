@@ -1,7 +1,6 @@
 -- What was read is what the source had left, where it tells, and what the words and the bytes ask is one thing.
-use Rattle.std.proofs.Common.{◌≡◌, ℕ, ◌+◌, ◌^◌, ◌<◌, ◌≤◌, List, [], ◌∷◌, ◌++◌, length, take, Some, None, refl, sym, ap, subst, ◌∙◌, append-nil, length-append, arith}
-use Rattle.std.specs.Prelude.{Option, IfSome, IsSomeAnd, codes, decimal}
-use Rattle.std.proofs.lemmas.Fmt.{decimal_injective}
+use Rattle.std.proofs.Common.{◌≡◌, ℕ, ◌+◌, ◌<◌, ◌≤◌, List, [], ◌++◌, length, take, Some, None, sym, ap, subst, ◌∙◌, append-nil, length-append, arith}
+use Rattle.std.specs.Prelude.{Option, IfSome, IsSomeAnd}
 use Rattle.inv_outside.specs.Outside.{Gave, Took}
 use Rattle.invring_app.specs.Commands.{AsksBasis}
 use Rattle.invring_app.specs.Outcomes.{Asks}

@@ -1,6 +1,6 @@
 -- What is read is a text of a thin script, and each text of a thin script is read.
-use Rattle.std.proofs.Common.{◌≡◌, ◌≢◌, ℕ, zero, suc, ◌+◌, ◌-◌, ◌*◌, ◌^◌, ◌<◌, ◌≤◌, ◌&&◌, ◌||◌, Bool, true, false, eqb, List, [], ◌∷◌, ◌++◌, length, map, All, Some, None, refl, sym, ap, subst, ◌∙◌, append_assoc, arith, inl, inr, if◌then◌else◌}
-use Rattle.std.specs.Prelude.{Option, Result, Ok, Err, IfOk, codes, decimal, ◌==◌, nat_le}
+use Rattle.std.proofs.Common.{◌≡◌, ℕ, ◌-◌, ◌*◌, ◌<◌, ◌≤◌, ◌&&◌, ◌||◌, true, eqb, List, [], ◌∷◌, ◌++◌, length, map, All, Some, None, refl, sym, ap, subst, ◌∙◌, append_assoc, arith, inl, inr, if◌then◌else◌}
+use Rattle.std.specs.Prelude.{Result, Ok, Err, IfOk, codes, decimal, nat_le}
 use Rattle.std.specs.List.{join_with_byte}
 use Rattle.std.proofs.lemmas.Bool.{and_from, and_parts, or_cases, eqb-true, leb-true, le-leb}
 use Rattle.std.proofs.lemmas.Bool.Decides.{nat_tests}
@@ -10,9 +10,9 @@ use Rattle.prime_field.specs.ListedPrimes.{is_listed}
 use Rattle.prime_field.specs.PrimeFields.{listed_positive}
 use Rattle.invring_app.specs.declared.fault.ReadError.{ReadError}
 use Rattle.invring_app.specs.declared.fault.ReadError.TheVariants as errors
-use Rattle.invring_app.specs.Reading.{◌>>=◌, Gives, after, number_at, numeral_at, names_at, numbers_at, are_variables, ring_at, matrix_at, blank_at, end_at, script_at}
-use Rattle.invring_app.specs.ThinScripts.{ThinScript, IsThinScript, AreVariables, ring_text, matrix_text, IsBlank, IsEnding, thin_text, ThinScriptText}
-use Rattle.invring_app.proofs.PartLaws.{bind_some, bind_at, some_is, after-takes, after-again, number_at-takes, number_at-again, numeral_at-takes, numeral_at-again, Numbers, numbers_at-takes, numbers_at-again}
+use Rattle.invring_app.specs.Reading.{Gives, after, number_at, numeral_at, names_at, numbers_at, are_variables, ring_at, matrix_at, blank_at, end_at, script_at}
+use Rattle.invring_app.specs.ThinScripts.{ThinScript, IsThinScript, AreVariables, ring_text, matrix_text, IsBlank, IsEnding, ThinScriptText}
+use Rattle.invring_app.proofs.PartLaws.{bind_some, some_is, after-takes, after-again, number_at-takes, number_at-again, numeral_at-takes, numeral_at-again, Numbers, numbers_at-takes, numbers_at-again}
 use Rattle.invring_app.proofs.NameLaws.{name_list, names_at-takes, names_at-again, are_variables-found, are_variables-only}
 
 -- the parts of a ring, one after the other

@@ -1,5 +1,5 @@
 ghost use Rattle.std.specs.Prelude.{◌≡◌, ◌≢◌, ◌↔◌, ◌<◌, ◌≤◌, ℕ, List, [], length, take, map, string_bytes, IfSome};
-ghost use Rattle.inv_outside.specs.Outside.{Rose, Took};
+ghost use Rattle.inv_outside.specs.Outside.{Rose, Gave, Took};
 ghost use Rattle.invring_app.specs.Commands.{AsksBasis};
 ghost use Rattle.invring_app.specs.Outcomes.{Asks, IsPastReading, Writes, IsTermBound, count_of};
 ghost use Rattle.invring_app.specs.Outputs.{IsLines};
@@ -30,7 +30,8 @@ pub fn run<S: Source, O: Sink, E: Sink>(
     ensures asked { result ≢ Status.Usage → (d : ℕ) × AsksBasis (map string_bytes words.now) d }
     ensures idle { result ≡ Status.Usage → src.new ≡ src.old }
 
-    // Reading, and what was read.
+    // Reading, and what was read: at most one byte more than a script may have.
+    ensures gave { (bytes : List ℕ) × (length bytes ≤ 4097) × Gave (S.left src.old) bytes (S.left src.new) }
     ensures read { result ≡ Status.ReadFault → Rose (S.faults src.old) (S.faults src.new) }
     ensures place { (p : Place) → result ≡ Status.Syntax p → p ≡ Place.Byte 0 }
     ensures syntax { (p : Place) → result ≡ Status.Syntax p → IfSome (S.left src.old) (λ bytes. (s : ThinScript) → ¬ ThinScriptText bytes s) }

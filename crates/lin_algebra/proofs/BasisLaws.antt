@@ -1,10 +1,10 @@
 -- The steps of elimination on rows of values.
-use Rattle.std.proofs.Common.{◌≡◌, ◌≢◌, ℕ, zero, suc, ◌+◌, ◌<◌, ◌≤◌, List, [], ◌∷◌, ◌++◌, map, length, take, drop, get_or, set, All, Option, Some, IfSome, sym, ap, ap₂, ◌∙◌, refl, arith, subst}
+use Rattle.std.proofs.Common.{◌≡◌, ◌≢◌, ℕ, zero, suc, ◌+◌, ◌<◌, ◌≤◌, inl, inr, List, [], ◌∷◌, ◌++◌, map, length, take, drop, get_or, set, All, Option, Some, IfSome, sym, ap, ap₂, ◌∙◌, refl, arith, subst}
 use Rattle.std.specs.List.{insert, AllByRecursion as Each}
 use Rattle.std.specs.Vec.{with_items}
 use Rattle.std.proofs.lemmas.List.{with_items_is, drop_more, drop_all, get_or_read, get_or-map, map-set, map-append, take-map, drop-map, length-map, ext_get_or, get_or_default, length-take-le, get_or-take}
 use Rattle.std.proofs.lemmas.List.Elements.{All-set, All-from_recursion, recursion_from_All}
-use Rattle.lin_algebra.proofs.EachLaws.{Each_map, Each_of_map}
+use Rattle.lin_algebra.proofs.EachLaws.{In, Each_map, Each_of_map}
 use Rattle.alg_core.specs.Rings.{Ring}
 use Rattle.alg_core.specs.RingLaws as rings
 use Rattle.alg_core.specs.ModuleLaws as modules
@@ -101,7 +101,7 @@ module _ {E : Type 0} (k : FieldOn E) where
         let made : ◌≡◌ {A = PivotRow (Scalar k)} (row_of changed) (cleared (scalars k) p w old) = λ t. ((get_or basis i d).pivot, (ap (vector k) changed_items ∙ clear) t) in
         subst (λ l. Written no_row (λ j. cleared (scalars k) p w) init l (i + 1)) (sym (basis_rows_set basis i changed))
         (written_more no_row (λ j. cleared (scalars k) p w) init (basis_rows k basis) i old (row_of changed) (omega (arith, length_basis_rows basis)) was
-            (basis_rows_at basis i (get_or basis i d) old inside (get_or_default basis i d (get_or basis i d) inside)) made)
+        (basis_rows_at basis i (get_or basis i d) old inside (get_or_default basis i d (get_or basis i d) inside)) made)
 
   -- the multiple of a row by the inverse of its entry
   pub monic_by : (row new : List E) (p : ℕ) (a b : E) (o : Option E) → p < length row → All (Has k) row → a ≡ get_or row p a → o ≡ Some b → IfSome o (λ x. Has k x × (k.mul a x ≡ k.one))
@@ -135,12 +135,12 @@ module _ {E : Type 0} (k : FieldOn E) where
   put_in_by p t entries old mid new x clear within before after is pivot_is entries_is =
       let u = vector k entries in
       let low : Each (λ e. e.0 < p) (take t (basis_rows k mid))
-            = subst (Each (λ (e : PivotRow (Scalar k)). e.0 < p)) (sym (take-map row_of t mid)) (inside_rows p (take t mid)
-                (λ i d h. let i_below : i < t = omega (arith, length-take-le t mid within) in subst (λ (e : BasisRow E). e.pivot < p) (sym (get_or-take t mid i d i_below)) (before i d i_below))) in
+      = subst (Each (λ (e : PivotRow (Scalar k)). e.0 < p)) (sym (take-map row_of t mid)) (inside_rows p (take t mid)
+      (λ i d h. let i_below : i < t = omega (arith, length-take-le t mid within) in subst (λ (e : BasisRow E). e.pivot < p) (sym (get_or-take t mid i d i_below)) (before i d i_below))) in
       let high : (d : PivotRow (Scalar k)) → t < length (basis_rows k mid) → p ≤ (get_or (basis_rows k mid) t d).0
-            = λ d h. let t_inside : t < length mid = omega (arith, length_basis_rows mid) in subst (λ (e : PivotRow (Scalar k)). p ≤ e.0) (sym (get_or-map row_of mid t x d t_inside)) (after x t_inside) in
+      = λ d h. let t_inside : t < length mid = omega (arith, length_basis_rows mid) in subst (λ (e : PivotRow (Scalar k)). p ≤ e.0) (sym (get_or-map row_of mid t x d t_inside)) (after x t_inside) in
       let list : basis_rows k new ≡ take t (basis_rows k mid) ++ (p, u) ∷ drop t (basis_rows k mid)
-            = ap (basis_rows k) is ∙ basis_rows_insert mid t x ∙ ap₂ (λ (q : ℕ) (ys : List E). take t (basis_rows k mid) ++ (q, vector k ys) ∷ drop t (basis_rows k mid)) pivot_is entries_is in
+      = ap (basis_rows k) is ∙ basis_rows_insert mid t x ∙ ap₂ (λ (q : ℕ) (ys : List E). take t (basis_rows k mid) ++ (q, vector k ys) ∷ drop t (basis_rows k mid)) pivot_is entries_is in
       subst (λ m. IsPlacedIn (scalars k) p u m (basis_rows k new)) clear (record { place = t; low = low; high = high; list = list })
 
   pub zero_before : (seen : List E) (p : ℕ) → ((i : ℕ) → i < p → get_or seen i k.zero ≡ k.zero) → (j : ℕ) → j < p → vector k seen j ≡ (scalars k).zero
@@ -151,3 +151,9 @@ module _ {E : Type 0} (k : FieldOn E) where
 
   pub rows_of_basis_nil : (basis : List (BasisRow E)) → basis ≡ [] → rows_of_basis k basis ≡ []
   rows_of_basis_nil basis e = ap (rows_of_basis k) e
+
+  -- a row of the list is among its vectors
+  pub in_basis_rows : (basis : List (BasisRow E)) (i : ℕ) (x : BasisRow E) → i < length basis → get_or basis i x ≡ x → In (row_of x) (basis_rows k basis)
+  in_basis_rows [] i x inside read = absurd (omega arith)
+  in_basis_rows (e ∷ l) zero x inside read = inl (ap row_of read)
+  in_basis_rows (e ∷ l) (suc i) x inside read = inr (in_basis_rows l i x (omega arith) read)

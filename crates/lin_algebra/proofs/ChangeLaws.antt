@@ -6,11 +6,11 @@ use Rattle.alg_core.specs.RingLaws as rings
 use Rattle.alg_core.specs.ModuleLaws as modules
 use Rattle.lin_algebra.specs.Vectors.{vectors}
 use Rattle.lin_algebra.specs.Spans.{InSpan, SameSpan}
-use Rattle.lin_algebra.specs.Echelons.{PivotRow, IsPivotRow, Precedes, IsReducedEchelon}
+use Rattle.lin_algebra.specs.Echelons.{PivotRow, rows, IsPivotRow, Precedes, IsReducedEchelon}
 use Rattle.lin_algebra.proofs.EachLaws.{Each_weaker, Each_both, Each_append, Each_append_left, Each_append_right, Each_map, three_ways}
 use Rattle.lin_algebra.proofs.SpanLaws.{span_member, span_add, span_act, span_head, span_tail, span_within, SameSpan_from}
 use Rattle.lin_algebra.proofs.EchelonLaws.{zero_at_earlier}
-use Rattle.lin_algebra.specs.Bases.{rows, cleared_at, cleared, reduced_by}
+use Rattle.lin_algebra.specs.Bases.{cleared_at, cleared, reduced_by}
 
 module _ {K : Type 0} (R : Ring K) where
   abbrev V : Type 0
@@ -50,19 +50,21 @@ module _ {K : Type 0} (R : Ring K) where
 
   pub IsReducedEchelon_cleared : (p : ℕ) (w : V) (l : List (PivotRow K)) → IsNew p w l → IsReducedEchelon R l → IsReducedEchelon R (map (cleared R p w) l)
   IsReducedEchelon_cleared p w [] new r = tt
-  IsReducedEchelon_cleared p w (e ∷ l) new r =
-      ( cleared_pivot p w e new.pivot new.apart.0.0 new.apart.0.1 r.0
-      , Each_map (Precedes R (cleared R p w e)) (cleared R p w) l (Each_both (Precedes R e) (λ f. (w f.0 ≡ R.zero) × (f.0 ≢ p)) (λ f. Precedes R (cleared R p w e) (cleared R p w f))
-          (λ f h z. record { rises = h.rises; clear = keeps e.1 w _ f.0 R.zero h.clear z.0 }) l r.1 new.apart.1)
-      , IsReducedEchelon_cleared p w l (record { pivot = new.pivot; apart = new.apart.1 }) r.2 )
+  IsReducedEchelon_cleared p w (e ∷ l) new r = (
+    cleared_pivot p w e new.pivot new.apart.0.0 new.apart.0.1 r.0,
+    Each_map (Precedes R (cleared R p w e)) (cleared R p w) l (Each_both (Precedes R e) (λ f. (w f.0 ≡ R.zero) × (f.0 ≢ p)) (λ f. Precedes R (cleared R p w e) (cleared R p w f))
+        (λ f h z. record { rises = h.rises; clear = keeps e.1 w _ f.0 R.zero h.clear z.0 }) l r.1 new.apart.1),
+    IsReducedEchelon_cleared p w l (record { pivot = new.pivot; apart = new.apart.1 }) r.2,
+  )
 
   -- a row takes its place between those with a smaller and those with a greater pivot
   pub IsReducedEchelon_insert : (l r : List (PivotRow K)) (n : PivotRow K) → IsReducedEchelon R (l ++ r) → IsPivotRow R n → Each (λ e. Precedes R e n) l → Each (Precedes R n) r → IsReducedEchelon R (l ++ n ∷ r)
   IsReducedEchelon_insert [] r n h p before after = (p, after, h)
-  IsReducedEchelon_insert (e ∷ l) r n h p before after =
-      ( h.0
-      , Each_append (Precedes R e) l (n ∷ r) (Each_append_left (Precedes R e) l r h.1) (before.0, Each_append_right (Precedes R e) l r h.1)
-      , IsReducedEchelon_insert l r n h.2 p before.1 after )
+  IsReducedEchelon_insert (e ∷ l) r n h p before after = (
+    h.0,
+    Each_append (Precedes R e) l (n ∷ r) (Each_append_left (Precedes R e) l r h.1) (before.0, Each_append_right (Precedes R e) l r h.1),
+    IsReducedEchelon_insert l r n h.2 p before.1 after,
+  )
 
   -- the cleared rows, and w among them, span what the rows and w span
   pub span_cleared : (p : ℕ) (w : V) (l : List (PivotRow K)) → SameSpan (vectors R) (w ∷ rows R (map (cleared R p w) l)) (w ∷ rows R l)
@@ -70,18 +72,20 @@ module _ {K : Type 0} (R : Ring K) where
     where
       there : (m : List (PivotRow K)) (ws : List V) → ((v : V) → InSpan (vectors R) (w ∷ rows R m) v → InSpan (vectors R) (w ∷ ws) v) → Each (InSpan (vectors R) (w ∷ ws)) (rows R (map (cleared R p w) m))
       there [] ws up = tt
-      there (e ∷ m) ws up =
-          ( span_add (vectors R) (w ∷ ws) _ _ (up e.1 (span_tail (vectors R) w (e.1 ∷ rows R m) e.1 (span_head (vectors R) e.1 (rows R m)))) (span_act (vectors R) (w ∷ ws) _ w (span_head (vectors R) w ws))
-          , there m ws (λ v h. up v (span_within (vectors R) (w ∷ rows R m) (w ∷ e.1 ∷ rows R m) (span_head (vectors R) w (e.1 ∷ rows R m), skip e.1 (rows R m)) v h)) )
+      there (e ∷ m) ws up = (
+        span_add (vectors R) (w ∷ ws) _ _ (up e.1 (span_tail (vectors R) w (e.1 ∷ rows R m) e.1 (span_head (vectors R) e.1 (rows R m)))) (span_act (vectors R) (w ∷ ws) _ w (span_head (vectors R) w ws)),
+        there m ws (λ v h. up v (span_within (vectors R) (w ∷ rows R m) (w ∷ e.1 ∷ rows R m) (span_head (vectors R) w (e.1 ∷ rows R m), skip e.1 (rows R m)) v h)),
+      )
         where
           skip : (x : V) (xs : List V) → Each (InSpan (vectors R) (w ∷ x ∷ xs)) xs
           skip x xs = Each_weaker (InSpan (vectors R) xs) (InSpan (vectors R) (w ∷ x ∷ xs)) (λ v h. span_tail (vectors R) w (x ∷ xs) v (span_tail (vectors R) x xs v h)) xs (span_member (vectors R) xs)
 
       back : (m : List (PivotRow K)) (ws : List V) → ((v : V) → InSpan (vectors R) (w ∷ rows R (map (cleared R p w) m)) v → InSpan (vectors R) (w ∷ ws) v) → Each (InSpan (vectors R) (w ∷ ws)) (rows R m)
       back [] ws up = tt
-      back (e ∷ m) ws up =
-          ( subst (InSpan (vectors R) (w ∷ ws)) again (span_add (vectors R) (w ∷ ws) (cleared R p w e).1 ((vectors R).◌·◌ (e.1 p) w) (up (cleared R p w e).1 (span_tail (vectors R) w ((cleared R p w e).1 ∷ rows R (map (cleared R p w) m)) (cleared R p w e).1 (span_head (vectors R) (cleared R p w e).1 (rows R (map (cleared R p w) m))))) (span_act (vectors R) (w ∷ ws) (e.1 p) w (span_head (vectors R) w ws)))
-          , back m ws (λ v h. up v (span_within (vectors R) (w ∷ rows R (map (cleared R p w) m)) (w ∷ (cleared R p w e).1 ∷ rows R (map (cleared R p w) m)) (span_head (vectors R) w ((cleared R p w e).1 ∷ rows R (map (cleared R p w) m)), skip (cleared R p w e).1 (rows R (map (cleared R p w) m))) v h)) )
+      back (e ∷ m) ws up = (
+        subst (InSpan (vectors R) (w ∷ ws)) again (span_add (vectors R) (w ∷ ws) (cleared R p w e).1 ((vectors R).◌·◌ (e.1 p) w) (up (cleared R p w e).1 (span_tail (vectors R) w ((cleared R p w e).1 ∷ rows R (map (cleared R p w) m)) (cleared R p w e).1 (span_head (vectors R) (cleared R p w e).1 (rows R (map (cleared R p w) m))))) (span_act (vectors R) (w ∷ ws) (e.1 p) w (span_head (vectors R) w ws))),
+        back m ws (λ v h. up v (span_within (vectors R) (w ∷ rows R (map (cleared R p w) m)) (w ∷ (cleared R p w e).1 ∷ rows R (map (cleared R p w) m)) (span_head (vectors R) w ((cleared R p w e).1 ∷ rows R (map (cleared R p w) m)), skip (cleared R p w e).1 (rows R (map (cleared R p w) m))) v h)),
+      )
         where
           again : (vectors R).◌+◌ (cleared R p w e).1 ((vectors R).◌·◌ (e.1 p) w) ≡ e.1
           again = (vectors R).add_assoc e.1 _ _ ∙ ap ((vectors R).◌+◌ e.1) (sym ((vectors R).add_act (R.neg (e.1 p)) (e.1 p) w) ∙ ap (λ c. (vectors R).◌·◌ c w) (rings.neg_add R (e.1 p)) ∙ (vectors R).zero_act w) ∙ (vectors R).add_zero e.1

@@ -69,9 +69,10 @@ module _ {E : Type 0} where
 module _ {E : Type 0} (k : FieldOn E) where
   IsRow_cut : (n c : ℕ) (xs : List E) → length xs ≡ n * c → All (Has k) xs → Each (IsRow k c) (cut n c xs)
   IsRow_cut zero c xs h g = tt
-  IsRow_cut (suc n) c xs h g =
-      ( record { count = length-take-le c xs (omega (arith, h)); has = All-take (Has k) c xs g }
-      , IsRow_cut n c (drop c xs) (length-drop c xs ∙ omega (arith, h)) (All-drop (Has k) c xs g) )
+  IsRow_cut (suc n) c xs h g = (
+    record { count = length-take-le c xs (omega (arith, h)); has = All-take (Has k) c xs g },
+    IsRow_cut n c (drop c xs) (length-drop c xs ∙ omega (arith, h)) (All-drop (Has k) c xs g),
+  )
 
   -- the rows of a matrix are rows of its field
   pub IsRow_rows_of : (m : Matrix E) → IsMatrix k m → Each (IsRow k m.cols) (rows_of m)

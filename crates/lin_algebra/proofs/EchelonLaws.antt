@@ -6,8 +6,7 @@ use Rattle.alg_core.specs.RingLaws as rings
 use Rattle.alg_core.specs.ModuleLaws as modules
 use Rattle.lin_algebra.specs.Vectors.{vectors}
 use Rattle.lin_algebra.specs.Spans.{InSpan, SameSpan}
-use Rattle.lin_algebra.specs.Bases.{rows}
-use Rattle.lin_algebra.specs.Echelons.{PivotRow, IsPivotRow, Precedes, IsReducedEchelon}
+use Rattle.lin_algebra.specs.Echelons.{PivotRow, rows, IsPivotRow, Precedes, IsReducedEchelon}
 use Rattle.lin_algebra.proofs.EachLaws.{In, Each_at, Each_from, Each_weaker, Each_both, Each_append, Each_append_left, Each_append_right, Each_map, Each_of_map, three_ways}
 use Rattle.lin_algebra.proofs.SpanLaws.{span_ind, span_member, span_add, span_act}
 use native.Mathlib.Decide.{ℕ_discrete}
@@ -56,11 +55,12 @@ module _ {K : Type 0} (R : Ring K) where
 
   by_pivots_members : (l : List (PivotRow K)) → IsReducedEchelon R l → Each (λ w. by_pivots w l ≡ w) (rows R l)
   by_pivots_members [] r = tt
-  by_pivots_members (e ∷ l) r =
-      ( ap₂ (vectors R).◌+◌ (ap (λ c. (vectors R).◌·◌ c e.1) r.0.at ∙ (vectors R).one_act e.1) (by_pivots_zero e.1 l (Each_weaker (Precedes R e) (λ f. e.1 f.0 ≡ R.zero) (λ f h. h.clear) l r.1)) ∙ (vectors R).add_zero e.1
-      , Each_both (λ w. w e.0 ≡ R.zero) (λ w. by_pivots w l ≡ w) (λ w. by_pivots w (e ∷ l) ≡ w)
-          (λ w z h. ap₂ (vectors R).◌+◌ (ap (λ c. (vectors R).◌·◌ c e.1) z ∙ (vectors R).zero_act e.1) h ∙ modules.zero_add (vectors R) w)
-          (rows R l) (Each_map (λ w. w e.0 ≡ R.zero) (λ f. f.1) l (zero_at_earlier e l r.1 r.2)) (by_pivots_members l r.2) )
+  by_pivots_members (e ∷ l) r = (
+    ap₂ (vectors R).◌+◌ (ap (λ c. (vectors R).◌·◌ c e.1) r.0.at ∙ (vectors R).one_act e.1) (by_pivots_zero e.1 l (Each_weaker (Precedes R e) (λ f. e.1 f.0 ≡ R.zero) (λ f h. h.clear) l r.1)) ∙ (vectors R).add_zero e.1,
+    Each_both (λ w. w e.0 ≡ R.zero) (λ w. by_pivots w l ≡ w) (λ w. by_pivots w (e ∷ l) ≡ w)
+        (λ w z h. ap₂ (vectors R).◌+◌ (ap (λ c. (vectors R).◌·◌ c e.1) z ∙ (vectors R).zero_act e.1) h ∙ modules.zero_add (vectors R) w)
+        (rows R l) (Each_map (λ w. w e.0 ≡ R.zero) (λ f. f.1) l (zero_at_earlier e l r.1 r.2)) (by_pivots_members l r.2),
+  )
 
   -- what is in the span is that combination
   pub by_pivots_span : (l : List (PivotRow K)) → IsReducedEchelon R l → (v : V) → InSpan (vectors R) (rows R l) v → by_pivots v l ≡ v

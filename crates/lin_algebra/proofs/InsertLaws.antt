@@ -8,8 +8,8 @@ use Rattle.alg_core.specs.RingLaws as rings
 use Rattle.alg_core.specs.ModuleLaws as modules
 use Rattle.lin_algebra.specs.Vectors.{vectors}
 use Rattle.lin_algebra.specs.Spans.{InSpan, SameSpan}
-use Rattle.lin_algebra.specs.Echelons.{PivotRow, IsPivotRow, Precedes, IsReducedEchelon}
-use Rattle.lin_algebra.specs.Bases.{rows, cleared_at, cleared, reduced_by, IsMonicMultiple, IsPutIn}
+use Rattle.lin_algebra.specs.Echelons.{PivotRow, rows, IsPivotRow, Precedes, IsReducedEchelon}
+use Rattle.lin_algebra.specs.Bases.{cleared_at, cleared, reduced_by, IsMonicMultiple, IsPutIn}
 use Rattle.lin_algebra.proofs.EachLaws.{Each_weaker, Each_both, Each_append, Each_append_left, Each_append_right, Each_map}
 use Rattle.lin_algebra.proofs.SpanLaws.{span_zero, span_add, span_act, span_head, span_tail, span_member, span_within, span_append_left, span_append_right, SameSpan_from}
 use Rattle.lin_algebra.proofs.EchelonLaws.{zero_at_earlier}
@@ -22,13 +22,14 @@ module _ {K : Type 0} {R : Ring K} {A : Type 0} (X : Module R A) where
   -- it does not matter where an element stands
   pub SameSpan_insert : (ls rs : List A) (w : A) → SameSpan X (ls ++ w ∷ rs) (w ∷ (ls ++ rs))
   SameSpan_insert ls rs w = SameSpan_from X (ls ++ w ∷ rs) (w ∷ (ls ++ rs))
-      ( Each_append (InSpan X (w ∷ (ls ++ rs))) ls (w ∷ rs)
-          (Each_weaker (InSpan X ls) (InSpan X (w ∷ (ls ++ rs))) (λ v h. span_tail X w (ls ++ rs) v (span_append_left X ls rs v h)) ls (span_member X ls))
-          (span_head X w (ls ++ rs), Each_weaker (InSpan X rs) (InSpan X (w ∷ (ls ++ rs))) (λ v h. span_tail X w (ls ++ rs) v (span_append_right X ls rs v h)) rs (span_member X rs)) )
-      ( span_append_right X ls (w ∷ rs) w (span_head X w rs)
-      , Each_append (InSpan X (ls ++ w ∷ rs)) ls rs
-          (Each_weaker (InSpan X ls) (InSpan X (ls ++ w ∷ rs)) (span_append_left X ls (w ∷ rs)) ls (span_member X ls))
-          (Each_weaker (InSpan X rs) (InSpan X (ls ++ w ∷ rs)) (λ v h. span_append_right X ls (w ∷ rs) v (span_tail X w rs v h)) rs (span_member X rs)) )
+      (Each_append (InSpan X (w ∷ (ls ++ rs))) ls (w ∷ rs)
+      (Each_weaker (InSpan X ls) (InSpan X (w ∷ (ls ++ rs))) (λ v h. span_tail X w (ls ++ rs) v (span_append_left X ls rs v h)) ls (span_member X ls))
+      (span_head X w (ls ++ rs), Each_weaker (InSpan X rs) (InSpan X (w ∷ (ls ++ rs))) (λ v h. span_tail X w (ls ++ rs) v (span_append_right X ls rs v h)) rs (span_member X rs))) (
+        span_append_right X ls (w ∷ rs) w (span_head X w rs),
+        Each_append (InSpan X (ls ++ w ∷ rs)) ls rs
+            (Each_weaker (InSpan X ls) (InSpan X (ls ++ w ∷ rs)) (span_append_left X ls (w ∷ rs)) ls (span_member X ls))
+            (Each_weaker (InSpan X rs) (InSpan X (ls ++ w ∷ rs)) (λ v h. span_append_right X ls (w ∷ rs) v (span_tail X w rs v h)) rs (span_member X rs)),
+      )
 
   -- an element of the span adds nothing
   pub SameSpan_absorb : (ws : List A) (v : A) → InSpan X ws v → SameSpan X ws (v ∷ ws)
@@ -55,9 +56,10 @@ module _ {K : Type 0} (R : Ring K) where
   -- what is left of a row is 0 at each pivot
   pub reduced_zero : (v : V) (l : List (PivotRow K)) → IsReducedEchelon R l → Each (λ e. reduced_by R v l e.0 ≡ R.zero) l
   reduced_zero v [] r = tt
-  reduced_zero v (e ∷ l) r =
-      ( reduced_keeps (cleared_at R e.0 e.1 v) l e.0 (zero_at_earlier R e l r.1 r.2) ∙ ap (R.◌+◌ (v e.0)) (ap (R.◌*◌ (R.neg (v e.0))) r.0.at ∙ R.mul_one _) ∙ R.add_neg (v e.0)
-      , reduced_zero (cleared_at R e.0 e.1 v) l r.2 )
+  reduced_zero v (e ∷ l) r = (
+    reduced_keeps (cleared_at R e.0 e.1 v) l e.0 (zero_at_earlier R e l r.1 r.2) ∙ ap (R.◌+◌ (v e.0)) (ap (R.◌*◌ (R.neg (v e.0))) r.0.at ∙ R.mul_one _) ∙ R.add_neg (v e.0),
+    reduced_zero (cleared_at R e.0 e.1 v) l r.2,
+  )
 
   -- and what is taken off is a combination of the rows
   pub reduced_span : (v : V) (l : List (PivotRow K)) → (s : V) × InSpan X (rows R l) s × (v ≡ X.◌+◌ (reduced_by R v l) s)
@@ -65,10 +67,11 @@ module _ {K : Type 0} (R : Ring K) where
   reduced_span v (e ∷ l) =
       let rest = reduced_span (cleared_at R e.0 e.1 v) l in
       let again : X.◌+◌ (cleared_at R e.0 e.1 v) (X.◌·◌ (v e.0) e.1) ≡ v
-            = X.add_assoc v _ _ ∙ ap (X.◌+◌ v) (sym (X.add_act (R.neg (v e.0)) (v e.0) e.1) ∙ ap (λ c. X.◌·◌ c e.1) (rings.neg_add R (v e.0)) ∙ X.zero_act e.1) ∙ X.add_zero v in
-      ( X.◌+◌ rest.0 (X.◌·◌ (v e.0) e.1)
-      , span_add X (e.1 ∷ rows R l) _ _ (span_tail X e.1 (rows R l) rest.0 rest.1) (span_act X (e.1 ∷ rows R l) (v e.0) e.1 (span_head X e.1 (rows R l)))
-      , sym again ∙ ap (λ u. X.◌+◌ u (X.◌·◌ (v e.0) e.1)) rest.2 ∙ X.add_assoc _ _ _ )
+      = X.add_assoc v _ _ ∙ ap (X.◌+◌ v) (sym (X.add_act (R.neg (v e.0)) (v e.0) e.1) ∙ ap (λ c. X.◌·◌ c e.1) (rings.neg_add R (v e.0)) ∙ X.zero_act e.1) ∙ X.add_zero v in (
+        X.◌+◌ rest.0 (X.◌·◌ (v e.0) e.1),
+        span_add X (e.1 ∷ rows R l) _ _ (span_tail X e.1 (rows R l) rest.0 rest.1) (span_act X (e.1 ∷ rows R l) (v e.0) e.1 (span_head X e.1 (rows R l))),
+        sym again ∙ ap (λ u. X.◌+◌ u (X.◌·◌ (v e.0) e.1)) rest.2 ∙ X.add_assoc _ _ _,
+      )
 
   -- a row of which nothing is left is a combination of the others
   pub SameSpan_reduced_to_zero : (v : V) (l : List (PivotRow K)) → reduced_by R v l ≡ X.zero → SameSpan X (rows R l) (v ∷ rows R l)
@@ -113,7 +116,7 @@ module _ {K : Type 0} (R : Ring K) where
       };
       apart = Each_weaker (λ e. reduced_by R v l e.0 ≡ R.zero) (λ e. (u e.0 ≡ R.zero) × (e.0 ≢ p))
           (λ e z. let none : w e.0 ≡ R.zero = ap (λ x. x e.0) left ∙ z in
-              (ap (λ x. x e.0) scaled ∙ ap (R.◌*◌ a) none ∙ rings.mul_zero R a, λ q. one_not_zero (sym inverse ∙ ap (R.◌*◌ a) (ap w (sym q) ∙ none) ∙ rings.mul_zero R a)))
+          (ap (λ x. x e.0) scaled ∙ ap (R.◌*◌ a) none ∙ rings.mul_zero R a, λ q. one_not_zero (sym inverse ∙ ap (R.◌*◌ a) (ap w (sym q) ∙ none) ∙ rings.mul_zero R a)))
           l (reduced_zero v l r);
     }
 
@@ -123,7 +126,7 @@ module _ {K : Type 0} (R : Ring K) where
     m_apart : Each (λ e. (u e.0 ≡ R.zero) × (e.0 ≢ p) × (e.1 p ≡ R.zero)) m
     m_apart = subst (Each (λ e. (u e.0 ≡ R.zero) × (e.0 ≢ p) × (e.1 p ≡ R.zero))) (sym others)
         (Each_map (λ e. (u e.0 ≡ R.zero) × (e.0 ≢ p) × (e.1 p ≡ R.zero)) (cleared R p u) l
-            (Each_weaker (λ e. (u e.0 ≡ R.zero) × (e.0 ≢ p)) (λ e. (u e.0 ≡ R.zero) × (e.0 ≢ p) × ((cleared R p u e).1 p ≡ R.zero)) (λ e h. (h.0, h.1, cleared_zero R p u e is_new.pivot.at)) l is_new.apart))
+        (Each_weaker (λ e. (u e.0 ≡ R.zero) × (e.0 ≢ p)) (λ e. (u e.0 ≡ R.zero) × (e.0 ≢ p) × ((cleared R p u e).1 p ≡ R.zero)) (λ e h. (h.0, h.1, cleared_zero R p u e is_new.pivot.at)) l is_new.apart))
 
     pub inserted_reduced : IsReducedEchelon R (take t m ++ (p, u) ∷ drop t m)
     inserted_reduced = IsReducedEchelon_insert R (take t m) (drop t m) (p, u) (subst (IsReducedEchelon R) (sym (take-append-drop t m)) m_reduced) is_new.pivot

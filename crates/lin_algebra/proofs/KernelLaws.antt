@@ -1,7 +1,4 @@
 -- The kernel of a matrix by its reduced echelon form.
---
---   particular R j l      the sum of e j times the unit vector of the pivot of e, over the rows e of l
---   kernel_vector R j l   the unit vector j less that
 use Rattle.std.proofs.Common.{◌≡◌, ◌≢◌, ℕ, zero, suc, ◌<◌, ◌≤◌, ◌⊎◌, inl, inr, List, [], ◌∷◌, ◌++◌, map, sym, ap, ap₂, ◌∙◌, refl, arith, subst}
 use Rattle.std.specs.List.{AllByRecursion as Each}
 use Rattle.std.proofs.lemmas.Bool.{cases_lt}
@@ -10,54 +7,47 @@ use Rattle.alg_core.specs.RingLaws as rings
 use Rattle.alg_core.specs.ModuleLaws as modules
 use Rattle.lin_algebra.specs.Vectors.{vectors, dot, unit}
 use Rattle.lin_algebra.specs.Spans.{InSpan, SameSpan}
-use Rattle.lin_algebra.specs.Echelons.{PivotRow, IsReducedEchelon}
+use Rattle.lin_algebra.specs.Echelons.{PivotRow, rows, IsReducedEchelon}
 use Rattle.lin_algebra.proofs.EachLaws.{Each_both, Each_of_map}
 use Rattle.lin_algebra.proofs.SpanLaws.{span_ind, span_zero, span_add, span_act}
 use Rattle.lin_algebra.proofs.DotLaws.{dot_zero, dot_add, dot_act, dot_comm, dot_add_right, dot_act_right, dot_unit, dot_unit_past, dot_same, unit_comm, unit_other}
 use Rattle.lin_algebra.proofs.EchelonLaws.{by_pivots, by_pivots_span}
-use Rattle.lin_algebra.specs.Bases.{rows}
+use Rattle.lin_algebra.specs.Kernels.{particular, kernel_vector}
 
 module _ {K : Type 0} (R : Ring K) where
   abbrev V : Type 0
   V = ℕ → K
 
-  abbrev pub particular : ℕ → List (PivotRow K) → V
-  particular j [] = (vectors R).zero
-  particular j (e ∷ l) = (vectors R).◌+◌ ((vectors R).◌·◌ (e.1 j) (unit R e.0)) (particular j l)
-
-  abbrev pub kernel_vector : ℕ → List (PivotRow K) → V
-  kernel_vector j l = (vectors R).◌+◌ (unit R j) ((vectors R).◌·◌ (R.neg R.one) (particular j l))
-
-  pub particular_append : (j : ℕ) (l r : List (PivotRow K)) → particular j (l ++ r) ≡ (vectors R).◌+◌ (particular j l) (particular j r)
+  pub particular_append : (j : ℕ) (l r : List (PivotRow K)) → particular R j (l ++ r) ≡ (vectors R).◌+◌ (particular R j l) (particular R j r)
   particular_append j [] r = sym (modules.zero_add (vectors R) _)
   particular_append j (e ∷ l) r = ap ((vectors R).◌+◌ ((vectors R).◌·◌ (e.1 j) (unit R e.0))) (particular_append j l r) ∙ sym ((vectors R).add_assoc _ _ _)
 
   -- a row times the particular vector
-  dot_particular_by : (n : ℕ) (u : V) (j : ℕ) (l : List (PivotRow K)) → Each (λ e. e.0 < n) l → dot R n u (particular j l) ≡ by_pivots R u l j
+  dot_particular_by : (n : ℕ) (u : V) (j : ℕ) (l : List (PivotRow K)) → Each (λ e. e.0 < n) l → dot R n u (particular R j l) ≡ by_pivots R u l j
   dot_particular_by n u j [] h = dot_comm R n u _ ∙ dot_zero R n _ u (λ i _. refl)
   dot_particular_by n u j (e ∷ l) h = dot_add_right R n u _ _ ∙ ap₂ R.◌+◌ (dot_act_right R n (e.1 j) u (unit R e.0) ∙ ap (R.◌*◌ (e.1 j)) (dot_unit R n u e.0 h.0) ∙ R.mul_comm _ _) (dot_particular_by n u j l h.1)
 
-  pub dot_particular : (n : ℕ) (u : V) (j : ℕ) (l : List (PivotRow K)) → Each (λ e. e.0 < n) l → IsReducedEchelon R l → InSpan (vectors R) (rows R l) u → dot R n u (particular j l) ≡ u j
+  pub dot_particular : (n : ℕ) (u : V) (j : ℕ) (l : List (PivotRow K)) → Each (λ e. e.0 < n) l → IsReducedEchelon R l → InSpan (vectors R) (rows R l) u → dot R n u (particular R j l) ≡ u j
   dot_particular n u j l h r s = dot_particular_by n u j l h ∙ ap (λ v. v j) (by_pivots_span R l r u s)
 
   -- a row of the span times a kernel vector is 0
-  pub dot_kernel_vector : (n : ℕ) (u : V) (j : ℕ) (l : List (PivotRow K)) → j < n → Each (λ e. e.0 < n) l → IsReducedEchelon R l → InSpan (vectors R) (rows R l) u → dot R n u (kernel_vector j l) ≡ R.zero
+  pub dot_kernel_vector : (n : ℕ) (u : V) (j : ℕ) (l : List (PivotRow K)) → j < n → Each (λ e. e.0 < n) l → IsReducedEchelon R l → InSpan (vectors R) (rows R l) u → dot R n u (kernel_vector R j l) ≡ R.zero
   dot_kernel_vector n u j l b h r s =
       dot_add_right R n u _ _ ∙ ap₂ R.◌+◌ (dot_unit R n u j b) (dot_act_right R n (R.neg R.one) u _ ∙ ap (R.◌*◌ (R.neg R.one)) (dot_particular n u j l h r s))
       ∙ ap (λ c. R.◌+◌ c (R.◌*◌ (R.neg R.one) (u j))) (sym (rings.one_mul R (u j))) ∙ sym (rings.add_mul R R.one (R.neg R.one) (u j)) ∙ ap (λ c. R.◌*◌ c (u j)) (R.add_neg R.one) ∙ rings.zero_mul R (u j)
 
   -- a vector that each row makes 0 is that combination of the kernel vectors whose coefficients are its entries
-  dot_particulars : (n : ℕ) (v : V) (i : ℕ) (l : List (PivotRow K)) → Each (λ e. dot R n e.1 v ≡ R.zero) l → dot R n v (λ j. particular j l i) ≡ R.zero
+  dot_particulars : (n : ℕ) (v : V) (i : ℕ) (l : List (PivotRow K)) → Each (λ e. dot R n e.1 v ≡ R.zero) l → dot R n v (λ j. particular R j l i) ≡ R.zero
   dot_particulars n v i [] h = dot_comm R n v _ ∙ dot_zero R n _ v (λ j _. refl)
   dot_particulars n v i (e ∷ l) h =
-      dot_add_right R n v (λ j. R.◌*◌ (e.1 j) (unit R e.0 i)) (λ j. particular j l i)
+      dot_add_right R n v (λ j. R.◌*◌ (e.1 j) (unit R e.0 i)) (λ j. particular R j l i)
       ∙ ap₂ R.◌+◌ (dot_same R n v v _ ((vectors R).◌·◌ (unit R e.0 i) e.1) (λ j _. refl) (λ j _. R.mul_comm _ _) ∙ dot_act_right R n (unit R e.0 i) v e.1 ∙ ap (R.◌*◌ (unit R e.0 i)) (dot_comm R n v e.1 ∙ h.0) ∙ rings.mul_zero R _) (dot_particulars n v i l h.1)
       ∙ R.add_zero R.zero
 
-  pub kernel_combination : (n : ℕ) (v : V) (l : List (PivotRow K)) → ((j : ℕ) → n ≤ j → v j ≡ R.zero) → Each (λ e. dot R n e.1 v ≡ R.zero) l → (i : ℕ) → dot R n v (λ j. kernel_vector j l i) ≡ v i
+  pub kernel_combination : (n : ℕ) (v : V) (l : List (PivotRow K)) → ((j : ℕ) → n ≤ j → v j ≡ R.zero) → Each (λ e. dot R n e.1 v ≡ R.zero) l → (i : ℕ) → dot R n v (λ j. kernel_vector R j l i) ≡ v i
   kernel_combination n v l past h i =
-      dot_add_right R n v (λ j. unit R j i) (λ j. R.◌*◌ (R.neg R.one) (particular j l i))
-      ∙ ap₂ R.◌+◌ (dot_same R n v v _ (unit R i) (λ j _. refl) (λ j _. unit_comm R j i) ∙ at (cases_lt i n)) (dot_act_right R n (R.neg R.one) v (λ j. particular j l i) ∙ ap (R.◌*◌ (R.neg R.one)) (dot_particulars n v i l h) ∙ rings.mul_zero R _)
+      dot_add_right R n v (λ j. unit R j i) (λ j. R.◌*◌ (R.neg R.one) (particular R j l i))
+      ∙ ap₂ R.◌+◌ (dot_same R n v v _ (unit R i) (λ j _. refl) (λ j _. unit_comm R j i) ∙ at (cases_lt i n)) (dot_act_right R n (R.neg R.one) v (λ j. particular R j l i) ∙ ap (R.◌*◌ (R.neg R.one)) (dot_particulars n v i l h) ∙ rings.mul_zero R _)
       ∙ R.add_zero (v i)
     where
       at : (i < n) ⊎ (n ≤ i) → dot R n v (unit R i) ≡ v i

@@ -9,3 +9,10 @@ pub mod InsertLaws
 pub mod BasisLaws
 pub mod CutLaws
 pub mod ProductLaws
+pub mod FormLaws
+pub mod KernelOf
+pub mod BesideLaws
+pub mod SolutionLaws
+pub mod InverseLaws
+pub mod HalfLaws
+pub mod UniqueLaws

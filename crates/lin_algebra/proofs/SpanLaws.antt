@@ -79,7 +79,7 @@ module _ {K : Type 0} {R : Ring K} {A : Type 0} (X : Module R A) where
       there : (u : A) → InSpan X (new ++ rest) u → InSpan X whole u
       there u h = (was u).0 (span_within (new ++ rest) (old ++ (rest ++ w ∷ [])) (Each_append (InSpan X (old ++ (rest ++ w ∷ []))) new rest
           (Each_weaker (InSpan X new) (InSpan X (old ++ (rest ++ w ∷ []))) (λ x g. span_within (w ∷ old) (old ++ (rest ++ w ∷ []))
-              (span_append_right old (rest ++ w ∷ []) w (span_append_right rest (w ∷ []) w (span_head w [])), Each_weaker (InSpan X old) (InSpan X (old ++ (rest ++ w ∷ []))) (span_append_left old (rest ++ w ∷ [])) old (span_member old)) x ((step x).0 g)) new (span_member new))
+          (span_append_right old (rest ++ w ∷ []) w (span_append_right rest (w ∷ []) w (span_head w [])), Each_weaker (InSpan X old) (InSpan X (old ++ (rest ++ w ∷ []))) (span_append_left old (rest ++ w ∷ [])) old (span_member old)) x ((step x).0 g)) new (span_member new))
           (Each_weaker (InSpan X rest) (InSpan X (old ++ (rest ++ w ∷ []))) (λ x g. span_append_right old (rest ++ w ∷ []) x (span_append_left rest (w ∷ []) x g)) rest (span_member rest))) u h)
 
       back : (u : A) → InSpan X whole u → InSpan X (new ++ rest) u

@@ -2,7 +2,6 @@
 --
 --   basis_rows k l     the rows of the list, each with its pivot
 --   IsBasis k n l      they are rows of n values in reduced echelon form
---   rows R l           the vectors without their pivots
 --   cleared R p w e    the row e with the multiple of w taken off that makes e 0 at the column p, where w is 1 there
 --   reduced_by R v l   v, cleared by each row of l in turn at its pivot
 --   IsMonicMultiple R p v u   u is the multiple of v that is 1 at the column p
@@ -15,13 +14,9 @@ use Rattle.lin_algebra.specs.declared.elimination.BasisRow.{BasisRow}
 use Rattle.alg_core.specs.Rings.{Ring}
 use Rattle.alg_core.specs.Fields.{FieldOn, Scalar, scalars}
 use Rattle.lin_algebra.specs.Vectors.{vectors, vector, IsRow}
-use Rattle.lin_algebra.specs.Echelons.{PivotRow, IsReducedEchelon}
+use Rattle.lin_algebra.specs.Echelons.{PivotRow, rows, IsReducedEchelon}
 
 module _ {K : Type 0} (R : Ring K) where
-  -- the vectors without their pivots
-  abbrev pub rows : List (PivotRow K) → List (ℕ → K)
-  rows l = map (λ e. e.1) l
-
   -- u with the multiple of w taken off that makes it 0 at the column p
   abbrev pub cleared_at : ℕ → (ℕ → K) → (ℕ → K) → ℕ → K
   cleared_at p w u = (vectors R).◌+◌ u ((vectors R).◌·◌ (R.neg (u p)) w)

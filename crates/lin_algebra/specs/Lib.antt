@@ -3,3 +3,4 @@ pub mod Spans
 pub mod Echelons
 pub mod Matrices
 pub mod Bases
+pub mod Kernels

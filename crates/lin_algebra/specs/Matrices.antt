@@ -2,6 +2,8 @@
 --
 --   cut n c xs          the first n pieces of xs, each of the length c
 --   rows_of m           the rows of the matrix m, each a list of values
+--   joined xs ys        each list of xs with the list of ys at its place after it
+--   beside n u v        the first n entries of the vector u, and then those of v
 --   entries k m         the scalar at a row and a column, 0 outside the matrix
 --   vectors_of k m      the rows as vectors
 --   pivot_rows k e      the rows of an echelon form, each with its pivot
@@ -10,8 +12,9 @@
 --   IsIdentity R n p    the first n rows of p are those of the identity
 --   IsInverse R n a b   both products of a and b are the identity
 --   IsSolution k a b x  a · x = b
+--   IsKernelVector k a v  a · v = 0, and v is 0 past the columns of a
 --   IsDependent k a j   the column j of a is a combination of the columns before it
-use Rattle.std.specs.Prelude.{◌≡◌, ℕ, zero, suc, ◌*◌, ◌<◌, List, [], ◌∷◌, length, take, drop, map, All, slice_index_or}
+use Rattle.std.specs.Prelude.{◌≡◌, ℕ, zero, suc, ◌-◌, ◌*◌, ◌<◌, ◌≤◌, List, [], ◌∷◌, ◌++◌, if◌then◌else◌, nat_lt, length, take, drop, map, All, slice_index_or}
 use Rattle.std.specs.List.{zip}
 use Rattle.lin_algebra.specs.declared.matrix.Matrix.{Matrix}
 use Rattle.lin_algebra.specs.declared.matrix.Echelon.{Echelon}
@@ -28,6 +31,16 @@ cut (suc n) c xs = take c xs ∷ cut n c (drop c xs)
 -- the rows
 abbrev pub rows_of : {E : Type 0} → Matrix E → List (List E)
 rows_of m = cut m.rows m.cols m.cells.items
+
+-- each list with the list at its place after it
+abbrev pub joined : {E : Type 0} → List (List E) → List (List E) → List (List E)
+joined [] ys = []
+joined (x ∷ xs) [] = x ∷ xs
+joined (x ∷ xs) (y ∷ ys) = (x ++ y) ∷ joined xs ys
+
+-- the first n entries of u, and then those of v
+abbrev pub beside : {K : Type 0} → ℕ → (ℕ → K) → (ℕ → K) → ℕ → K
+beside n u v j = if nat_lt j n then u j else v (j - n)
 
 -- rows · cols values of the field
 pub record IsMatrix {E : Type 0} (k : FieldOn E) (m : Matrix E) : Type 0 where
@@ -65,6 +78,11 @@ module _ {E : Type 0} (k : FieldOn E) (a : Matrix E) where
   -- a · x = b
   abbrev pub IsSolution : (ℕ → Scalar k) → (ℕ → Scalar k) → Type 0
   IsSolution b x = (i : ℕ) → i < a.rows → dot (scalars k) a.cols (entries k a i) x ≡ b i
+
+  -- a · v = 0, for a vector of as many entries as a has columns
+  pub record IsKernelVector (v : ℕ → Scalar k) : Type 0 where
+    pub past : (j : ℕ) → a.cols ≤ j → v j ≡ (scalars k).zero
+    pub zero : (i : ℕ) → i < a.rows → dot (scalars k) a.cols (entries k a i) v ≡ (scalars k).zero
 
   -- the column j is a combination of the columns before it, with the coefficients c
   abbrev pub IsDependent : ℕ → Type 0

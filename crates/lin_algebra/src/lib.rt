@@ -2,9 +2,20 @@
 #![tactic(auto)]
 
 mod elimination;
+mod forms;
+mod inverses;
+mod laws;
 mod matrix;
 mod products;
 mod rows;
+mod systems;
 
+pub use forms::{echelon, kernel};
+pub use inverses::inverse;
+pub use laws::{echelon_is_unique, solution_is_unique};
 pub use matrix::{Echelon, Matrix};
 pub use products::multiply;
+pub use systems::solve;
+
+#[cfg(test)]
+mod tests;

@@ -1,4 +1,4 @@
-ghost use Rattle.std.specs.Prelude.{◌≡◌, ◌+◌, ◌*◌, ◌<◌, ◌++◌, [], length, map, slice_index_or, IfOk};
+ghost use Rattle.std.specs.Prelude.{◌≡◌, ◌*◌, ◌<◌, [], length, map, slice_index_or, IfOk};
 
 use alg_core::Memory;
 use std::alloc::Global;
@@ -34,7 +34,7 @@ impl<E> Matrix<E> {
 }
 
 impl<E: Copy> Matrix<E> {
-    ghost use Rattle.lin_algebra.specs.Matrices.{rows_of};
+    ghost use Rattle.lin_algebra.specs.Matrices.{rows_of, joined};
 
     /// A copy of each row.
     pub(crate) fn copied_rows(&self, alloc: Global) -> Result<Vec<Vec<E>>, Memory>
@@ -48,15 +48,24 @@ impl<E: Copy> Matrix<E> {
         Ok(rows)
     }
 
-    /// A copy of a row with further values after it.
-    pub(crate) fn row_beside(&self, alloc: Global, i: usize, right: &[E]) -> Result<Vec<E>, Memory>
+    /// A copy of each row, with the row of another matrix after it.
+    pub(crate) fn rows_beside(
+        &self,
+        alloc: Global,
+        right: &Matrix<E>,
+    ) -> Result<Vec<Vec<E>>, Memory>
         requires whole { length self.now.cells.items ≡ self.now.rows * self.now.cols }
-        requires row { i < self.now.rows }
-        ensures joined { IfOk result (λ r. r.items ≡ slice_index_or (rows_of self.now) i [] ++ right.now) }
-        ensures count { IfOk result (λ r. length r.items ≡ self.now.cols + length right.now) }
+        requires right_whole { length right.now.cells.items ≡ right.now.rows * right.now.cols }
+        requires same { right.now.rows ≡ self.now.rows }
+        ensures rows { IfOk result (λ rs. map (λ r. r.items) rs.items ≡ joined (rows_of self.now) (rows_of right.now)) }
     {
-        let mut row = Vec::from_slice(alloc, self.row(i))?;
-        row.extend_from_slice(right)?;
-        Ok(row)
+        let mut rows = Vec::new(alloc);
+        for i in 0..self.rows as usize {
+            let mut both = Vec::from_slice(alloc, self.row(i))?;
+            let after = right.row(i);
+            both.extend_from_slice(after)?;
+            rows.push(both)?;
+        }
+        Ok(rows)
     }
 }

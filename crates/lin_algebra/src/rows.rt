@@ -26,7 +26,12 @@ pub(crate) fn zeros<F: Field>(alloc: Global, field: &F, n: usize) -> Result<Vec<
 }
 
 /// Adds `factor` times another row.
-pub(crate) fn add_multiple<F: Field>(field: &F, row: &mut [F::Elem], factor: F::Elem, by: &[F::Elem])
+pub(crate) fn add_multiple<F: Field>(
+    field: &F,
+    row: &mut [F::Elem],
+    factor: F::Elem,
+    by: &[F::Elem],
+)
     requires same { length row.old ≡ length by.now }
     requires factor { Has (F.field field.now) factor }
     requires row_has { All (Has (F.field field.now)) row.old }

@@ -1,5 +1,4 @@
-use Rattle.std.proofs.Common.{◌≡◌, ◌++◌, ◌∷◌, [], ◌-◌}
-use Rattle.invring_app.specs.Reading.{numbers_at, more_numbers_at}
+use Rattle.std.proofs.Common.{◌≡◌, ◌++◌, ◌∷◌, []}
 use Rattle.invring_app.proofs.Fronts.{Gives-malformed, numbers-more, numbers-no_comma, numbers-no_number, numbers-all}
 use Rattle.invring_app.proofs.cells.cells_at.Goals as goal
 

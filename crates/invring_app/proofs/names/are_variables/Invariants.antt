@@ -1,4 +1,4 @@
-use Rattle.std.proofs.Common.{◌≡◌, ◌≤◌, [], length, take, drop}
+use Rattle.std.proofs.Common.{◌≡◌, [], take, drop}
 use Rattle.invring_app.specs.Reading.{are_new}
 use Rattle.invring_app.proofs.names.are_variables.Given as goal
 

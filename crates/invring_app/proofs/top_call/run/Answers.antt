@@ -1,6 +1,4 @@
-use Rattle.std.proofs.Common.{◌≡◌, ◌≤◌, refl, sym, ap, subst, Err, List, ℕ}
-use Rattle.std.specs.Prelude.{string_bytes, map}
-use Rattle.inv_outside.specs.Outside.{Took}
+use Rattle.std.proofs.Common.{◌≡◌, ◌≤◌, ap, Err}
 use Rattle.invring_app.specs.declared.answer.Refusal.{Refusal}
 use Rattle.invring_app.specs.declared.answer.Refusal.TheVariants as refusals
 use Rattle.invring_app.specs.Outcomes.{IsTermBound, count_of}

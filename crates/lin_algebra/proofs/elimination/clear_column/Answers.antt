@@ -21,4 +21,4 @@ pub returns-clause-cleared : goal.returns-clause-cleared
 returns-clause-cleared g c =
     let k = g.F.Field.field c.args.field.now in
     all_cleared k c.args.pivot (vector k c.args.new.now) (basis_rows k c.args.basis.now) (basis_rows k c.loop-i.basis) c.loop-i.i
-        (omega (arith, length_basis_rows k c.args.basis.now, length_basis_rows k c.loop-i.basis)) (omega (arith, length_basis_rows k c.args.basis.now)) c.loop-i.invariant.cleared
+    (omega (arith, length_basis_rows k c.args.basis.now, length_basis_rows k c.loop-i.basis)) (omega (arith, length_basis_rows k c.args.basis.now)) c.loop-i.invariant.cleared
