@@ -140,4 +140,5 @@ module _ {E : Type 0} (k : FieldOn E) where
         go (inr n) = no (λ a. n.1.there (nothing (shadow_of_span l h v a) n.0))
           where
             nothing : shadow l v ≡ v → (t : Key) → coef_at k (left l v) t ≡ R0
-            nothing e t = ap (λ u. coef_at k (difference k v u) t) e ∙ coef_difference k v v t ∙ ap₂ (scalars k).◌+◌ (sym (rings.one_mul (scalars k) _)) refl ∙ sym (rings.add_mul (scalars k) (scalars k).one ((scalars k).neg (scalars k).one) _) ∙ ap (λ d. (scalars k).◌*◌ d (coef_at k v t)) ((scalars k).add_neg (scalars k).one) ∙ rings.zero_mul (scalars k) _
+            nothing e t = ap (λ u. coef_at k (difference k v u) t) e ∙ coef_difference k v v t ∙ ap₂ (scalars k).◌+◌ (sym (rings.one_mul (scalars k) _)) refl
+                ∙ sym (rings.add_mul (scalars k) (scalars k).one ((scalars k).neg (scalars k).one) _) ∙ ap (λ d. (scalars k).◌*◌ d (coef_at k v t)) ((scalars k).add_neg (scalars k).one) ∙ rings.zero_mul (scalars k) _

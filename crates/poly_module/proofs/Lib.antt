@@ -22,3 +22,4 @@ pub mod MarkValues
 pub mod Exchange
 pub mod OverSpans
 pub mod FittingKeys
+pub mod HomogeneousSummands

@@ -74,7 +74,11 @@ module _ {E : Type 0} (k : FieldOn E) where
   variables_from_forms : (us vs : List ℕ) → AreForms k (us ++ vs) vs (variables_from k (length us) (length vs))
   unfolding variables_from
   variables_from_forms us [] = tt
-  variables_from_forms us (w ∷ vs) = (variable_form us w vs, subst (λ ws. AreForms k ws vs (variables_from k (suc (length us)) (length vs))) (append_assoc us (w ∷ []) vs) (subst (λ n. AreForms k ((us ++ (w ∷ [])) ++ vs) vs (variables_from k n (length vs))) (longer us) (variables_from_forms (us ++ (w ∷ [])) vs)))
+  variables_from_forms us (w ∷ vs) = (
+    variable_form us w vs,
+    subst (λ ws. AreForms k ws vs (variables_from k (suc (length us)) (length vs))) (append_assoc us (w ∷ []) vs)
+        (subst (λ n. AreForms k ((us ++ (w ∷ [])) ++ vs) vs (variables_from k n (length vs))) (longer us) (variables_from_forms (us ++ (w ∷ [])) vs)),
+  )
     where
       longer : (us : List ℕ) → length (us ++ (w ∷ [])) ≡ suc (length us)
       longer us = omega (arith, length-append us (w ∷ []))

@@ -29,7 +29,8 @@ module _ {E : Type 0} (k : FieldOn E) (o : OrderOn Key) (θ S : List (Vect k)) w
   unfolding single_vector zero_vector
   value_in_span L [] h = subst (Spans k (term_values L)) (sym (ap (combination_value k θ S) (class_nothing (scalars k) key_same) ∙ combination_value_zero k θ S)) (span_zero (vectors k) (term_values L))
   value_in_span L (e ∷ l) h = subst (Spans k (term_values L))
-      (sym (ap (combination_value k θ S) (class_cons (scalars k) key_same e l) ∙ (combination_value_linear k θ S).add _ _ ∙ ap (λ v. (vectors k).◌+◌ v (combination_value k θ S (class (scalars k) key_same l))) ((combination_value_linear k θ S).act e.1 _ ∙ ap ((vectors k).◌·◌ e.1) (combination_value_single k θ S e.0))))
+      (sym (ap (combination_value k θ S) (class_cons (scalars k) key_same e l) ∙ (combination_value_linear k θ S).add _ _
+      ∙ ap (λ v. (vectors k).◌+◌ v (combination_value k θ S (class (scalars k) key_same l))) ((combination_value_linear k θ S).act e.1 _ ∙ ap ((vectors k).◌·◌ e.1) (combination_value_single k θ S e.0))))
       (span_add (vectors k) (term_values L) _ _ (span_act (vectors k) (term_values L) e.1 _ (span_member (vectors k) (term_values L) _ (map_in (term_value k θ S) e.0 L (h e (inl refl))))) (value_in_span L l (λ f i. h f (inr i))))
 
   -- a sum of multiples of values of terms of combinations is the value of a combination

@@ -200,7 +200,8 @@ module _ {E : Type 0} (S : SpaceOver E) {I : Type 0} (g : I → Vect S.field) (d
       -- a key of the rest is a key of v of another degree
       none : (r : Key) → degree S r ≡ degree S t → coef_at S.field rest r ≡ (scalars S.field).zero
       none r e = coef_difference S.field v same_degree r ∙ ap (λ c. (scalars S.field).◌+◌ (coef_at S.field v r) ((scalars S.field).◌*◌ ((scalars S.field).neg (scalars S.field).one) c)) (graded_part_inside S.field (degree S) (degree S t) v r e)
-          ∙ ap₂ (scalars S.field).◌+◌ (sym (rings.one_mul (scalars S.field) _)) refl ∙ sym (rings.add_mul (scalars S.field) (scalars S.field).one ((scalars S.field).neg (scalars S.field).one) _) ∙ ap (λ c. (scalars S.field).◌*◌ c (coef_at S.field v r)) ((scalars S.field).add_neg (scalars S.field).one) ∙ rings.zero_mul (scalars S.field) _
+          ∙ ap₂ (scalars S.field).◌+◌ (sym (rings.one_mul (scalars S.field) _)) refl ∙ sym (rings.add_mul (scalars S.field) (scalars S.field).one ((scalars S.field).neg (scalars S.field).one) _)
+          ∙ ap (λ c. (scalars S.field).◌*◌ c (coef_at S.field v r)) ((scalars S.field).add_neg (scalars S.field).one) ∙ rings.zero_mul (scalars S.field) _
 
       kept : (r : Key) → ¬ (degree S r ≡ degree S t) → coef_at S.field rest r ≡ coef_at S.field v r
       kept r n = coef_difference S.field v same_degree r ∙ ap ((scalars S.field).◌+◌ _) (ap ((scalars S.field).◌*◌ _) (graded_part_outside S.field (degree S) (degree S t) v r n) ∙ rings.mul_zero (scalars S.field) _) ∙ (scalars S.field).add_zero _

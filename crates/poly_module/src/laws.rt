@@ -8,7 +8,7 @@ ghost use Rattle.alg_core.specs.Lists.{In};
 ghost use Rattle.alg_core.specs.Vectors.{Vect, vectors, coef_at, plus, zero_vector, scale, shift};
 ghost use Rattle.alg_core.specs.Spaces.{over};
 ghost use Rattle.alg_core.specs.SpaceOrder.{key_order};
-ghost use Rattle.alg_core.specs.SpaceGrading.{degree};
+ghost use Rattle.alg_core.specs.SpaceGrading.{weight, degree};
 ghost use Rattle.poly_module.specs.Polynomials.{single_vector, one_vector, product, vector_ring, vector_algebra};
 ghost use Rattle.poly_module.specs.Substitutions.{image, monomial_value, variable_vector, position_vector, substitute};
 ghost use Rattle.poly_module.specs.Parts.{Supp, select, passing, IsPolynomial, InVariables};
@@ -86,7 +86,8 @@ pub fn form_degrees<F: Field>(_field: &F)
         → (d : ℕ) (u : Vect k) → IsGraded k (key_weight ds) d u → InVariables k (length fs) u → IsForm k ws d (substitute k fs u) }
 {}
 
-/// The elements of a module: it has its members, sums, polynomial multiples and homogeneous parts.
+/// The elements of a module: it has its members, sums, polynomial multiples and, where its members are
+/// homogeneous, parts; an element of one degree is a sum of multiples of members that all have it.
 pub fn module_elements<F: Field, O: TermOrder>(_space: &Space<F, O>)
     ensures subspace { let k = F.field _space.now.field in (g : ℕ → Vect k) → IsSubspace k (InModule k g) }
     ensures member { let k = F.field _space.now.field in (g : ℕ → Vect k) (i : ℕ) → InModule k g (g i) }
@@ -95,15 +96,24 @@ pub fn module_elements<F: Field, O: TermOrder>(_space: &Space<F, O>)
         → (l : List (Scalar k × Mon × ℕ)) × (summands k g l ≡ v) }
     ensures part { let S = over F.field O.order _space.now in (g : ℕ → Vect S.field) (d : ℕ → ℕ)
         → ((i : ℕ) → IsHomogeneous S (d i) (g i)) → (e : ℕ) (v : Vect S.field) → InModule S.field g v → InModule S.field g (part S e v) }
+    ensures homogeneous { let S = over F.field O.order _space.now in (g : ℕ → Vect S.field) (d : ℕ → ℕ)
+        → ((i : ℕ) → IsHomogeneous S (d i) (g i)) → (n : ℕ) (v : Vect S.field) → IsHomogeneous S n v → InModule S.field g v
+        → (l : List (Scalar S.field × Mon × ℕ)) × ((e : Scalar S.field × Mon × ℕ) → In e l → weight S.weights 0 e.1.0 + d e.2 ≡ n)
+        × (summands S.field g l ≡ v) }
 {}
 
-/// By a positive order a module has at most one reduced basis, and that is a basis.
+/// By a positive order a module has at most one reduced basis, and that is a basis; its members are
+/// homogeneous where the generators are.
 pub fn reduced_bases<F: Field, O: TermOrder>(_space: &Space<F, O>)
     ensures unique { let S = over F.field O.order _space.now in S.order.is_positive ≡ true
         → (g : ℕ → Vect S.field) → ((i : ℕ) → Supp S.field (FitsOrder S) (g i))
         → (vs ws : List (Vect S.field)) → IsReducedBasis S g vs → IsReducedBasis S g ws → vs ≡ ws }
     ensures basis { let S = over F.field O.order _space.now in (g : ℕ → Vect S.field)
         → (vs : List (Vect S.field)) → IsReducedBasis S g vs → IsBasis S.field (listed S.field vs) (key_order S) }
+    ensures homogeneous { let S = over F.field O.order _space.now in (g : ℕ → Vect S.field) (d : ℕ → ℕ)
+        → ((i : ℕ) → IsHomogeneous S (d i) (g i)) → S.order.is_positive ≡ true → ((i : ℕ) → Supp S.field (FitsOrder S) (g i))
+        → (vs : List (Vect S.field)) → IsReducedBasis S g vs
+        → (v : Vect S.field) (t : Key) → In v vs → LeadBy S.field (key_order S) v t → IsHomogeneous S (degree S t) v }
 {}
 
 /// A finite list of vectors has one reduced echelon list, whether a vector lies in its span is decided,
