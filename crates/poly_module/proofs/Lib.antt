@@ -23,3 +23,4 @@ pub mod Exchange
 pub mod OverSpans
 pub mod FittingKeys
 pub mod HomogeneousSummands
+pub mod LeadLaws

@@ -1,8 +1,9 @@
 ghost use Rattle.std.specs.Prelude.{◌≡◌, ◌<◌, ◌≤◌, ◌+◌, ℕ, List, ◌++◌, map, length, Bool, true};
+ghost use Rattle.std.specs.declared.cmp.Ordering.TheVariants.{Less};
 ghost use Rattle.alg_core.specs.Rings.{Homomorphism};
 ghost use Rattle.alg_core.specs.Fields.{Scalar, scalars};
 ghost use Rattle.alg_core.specs.Monomials.{Mon, monomials};
-ghost use Rattle.alg_core.specs.Keys.{Key, keys};
+ghost use Rattle.alg_core.specs.Keys.{Key, keys, times_key};
 ghost use Rattle.alg_core.specs.KeyOrders.{OrderOn};
 ghost use Rattle.alg_core.specs.Lists.{In};
 ghost use Rattle.alg_core.specs.Vectors.{Vect, vectors, coef_at, plus, zero_vector, scale, shift};
@@ -76,6 +77,23 @@ pub fn vector_degrees<F: Field, O: TermOrder>(_space: &Space<F, O>)
     ensures product { let S = over F.field O.order _space.now in
         (d : ℕ) (f : Vect S.field) → IsForm S.field S.weights d f → (e : ℕ) (v : Vect S.field)
         → part S (d + e) (product S.field f v) ≡ product S.field f (part S e v) }
+{}
+
+/// The lead of a multiple by a monomial is the multiple of the lead, that of a product of polynomials the
+/// product of the leads; smaller keys change no lead, and where lead terms cancel the lead is smaller.
+pub fn vector_leads<F: Field, O: TermOrder>(_space: &Space<F, O>)
+    ensures multiple { let S = over F.field O.order _space.now in (m : Mon) (v : Vect S.field) (t : Key)
+        → LeadBy S.field (key_order S) v t → LeadBy S.field (key_order S) (shift S.field m v) (times_key m t) }
+    ensures product { let S = over F.field O.order _space.now in (f g : Vect S.field) (m n : Mon)
+        → IsPolynomial S.field f → IsPolynomial S.field g → LeadBy S.field (key_order S) f (0, m) → LeadBy S.field (key_order S) g (0, n)
+        → LeadBy S.field (key_order S) (product S.field f g) (0, monomials.◌·◌ m n) }
+    ensures sum { let S = over F.field O.order _space.now in (u v : Vect S.field) (t : Key)
+        → LeadBy S.field (key_order S) u t → Supp S.field (λ s. (key_order S).compare s t ≡ Less) v
+        → LeadBy S.field (key_order S) (plus S.field u v) t }
+    ensures cancelled { let S = over F.field O.order _space.now in (u v : Vect S.field) (t r : Key)
+        → LeadBy S.field (key_order S) u t → LeadBy S.field (key_order S) v t
+        → (scalars S.field).◌+◌ (coef_at S.field u t) (coef_at S.field v t) ≡ (scalars S.field).zero
+        → LeadBy S.field (key_order S) (plus S.field u v) r → (key_order S).compare r t ≡ Less }
 {}
 
 /// Degrees of forms add in products, and forms for the variables take forms to forms.
