@@ -3,16 +3,16 @@ use Rattle.std.proofs.Common.{◌≡◌, ℕ, zero, suc, ◌+◌, ◌<◌, ◌�
 use native.Mathlib.Decide.{dec_le}
 use Rattle.alg_core.specs.Rings.{Linear}
 use Rattle.alg_core.specs.ModuleLaws as modules
-use Rattle.alg_core.specs.Fields.{FieldOn, Scalar, scalars, scalar_of_value}
+use Rattle.alg_core.specs.Fields.{FieldOn, Scalar, scalars}
 use Rattle.alg_core.specs.FreeModules.{extend, extend_linear, extend_single}
 use Rattle.alg_core.specs.Monomials.{monomials}
 use Rattle.alg_core.specs.Keys.{Key, key_same, keys}
 use Rattle.alg_core.specs.SpaceGrading.{weight, height}
-use Rattle.alg_core.specs.Vectors.{Vect, vectors, plus, zero_vector, scale}
+use Rattle.alg_core.specs.Vectors.{Vect, vectors, plus, zero_vector}
 use Rattle.poly_module.specs.Polynomials.{single_vector, product, vector_ring}
 use Rattle.poly_module.specs.Products.{product_linear, product_linear_left, product_single, product_assoc, one_product, ring_product, ring_one}
 use Rattle.poly_module.specs.Substitutions.{monomial_value_mul, monomial_value_one, substitute, substitute_single}
-use Rattle.poly_module.specs.Parts.{Supp, IsPolynomial, InVariables, supp_single, supp_plus, supp_scale, supp_zero, supp_product, linear_supp, linear_unique_supp}
+use Rattle.poly_module.specs.Parts.{IsPolynomial, InVariables, supp_single, supp_plus, supp_zero, supp_product, linear_supp, linear_unique_supp, supp_act}
 use Rattle.poly_module.specs.Variables.{substitute_linear, length_mul, length_one}
 use Rattle.poly_module.specs.Degrees.{IsGraded, graded_part, graded_part_supp, graded_map}
 use Rattle.poly_module.specs.Forms.{dec_both, key_weight, OfDegree, of_degree, IsForm, AreForms, form_part, form_product, form_monomial}
@@ -62,11 +62,6 @@ module _ {E : Type 0} (k : FieldOn E) where
     pub combination_value_member : (j : ℕ) → combination_value k θ S (single_vector k (j, monomials.one)) ≡ listed k S j
     combination_value_member j = combination_value_single (j, monomials.one) ∙ ap (λ w. product k w (listed k S j)) (monomial_value_one (vector_ring k) θ ∙ ring_one k) ∙ one_product k _
 
-  -- a multiple by a scalar
-  supp_act : (Q : Key → Type 0) (c : Scalar k) (v : Vect k) → Supp k Q v → Supp k Q ((vectors k).◌·◌ c v)
-  unfolding scale
-  supp_act Q c v h = subst (λ d. Supp k Q ((vectors k).◌·◌ d v)) (scalar_of_value k c) (supp_scale k Q c.0 v h)
-
   module _ (θ S : List (Vect k)) where
     pub over_zero : Over k θ S (zero_vector k)
     over_zero = (zero_vector k, supp_zero k (λ t. (length t.1.0 ≤ length θ) × (t.0 < length S)), combination_value_zero θ S)
@@ -75,7 +70,7 @@ module _ {E : Type 0} (k : FieldOn E) where
     over_plus f g a b = (plus k a.0 b.0, supp_plus k (λ t. (length t.1.0 ≤ length θ) × (t.0 < length S)) a.0 b.0 a.1 b.1, combination_value_plus θ S a.0 b.0 ∙ ap₂ (plus k) a.2 b.2)
 
     pub over_act : (c : Scalar k) (f : Vect k) → Over k θ S f → Over k θ S ((vectors k).◌·◌ c f)
-    over_act c f a = ((vectors k).◌·◌ c a.0, supp_act (λ t. (length t.1.0 ≤ length θ) × (t.0 < length S)) c a.0 a.1, (combination_value_linear θ S).act c a.0 ∙ ap ((vectors k).◌·◌ c) a.2)
+    over_act c f a = ((vectors k).◌·◌ c a.0, supp_act k (λ t. (length t.1.0 ≤ length θ) × (t.0 < length S)) c a.0 a.1, (combination_value_linear θ S).act c a.0 ∙ ap ((vectors k).◌·◌ c) a.2)
 
     pub over_subspace : IsSubspace k (Over k θ S)
     over_subspace = record { zero = over_zero; plus = over_plus; act = over_act }

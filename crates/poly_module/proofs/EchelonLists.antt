@@ -9,10 +9,11 @@ use Rattle.alg_core.specs.KeyOrders.{OrderOn}
 use Rattle.alg_core.specs.Leads.{HasLead, has_lead}
 use Rattle.alg_core.specs.Lists.{In}
 use Rattle.alg_core.specs.Vectors.{Vect, vectors, coef_at, plus, zero_vector}
+use Rattle.poly_module.specs.Parts.{Supp, supp_zero, supp_plus, supp_act}
 use Rattle.poly_module.specs.Spans.{combine}
 use Rattle.poly_module.specs.Modules.{IsSubspace, LeadBy}
 use Rattle.poly_module.specs.Echelons.{Spans}
-use Rattle.poly_module.proofs.SpanLaws.{span_zero, span_add, span_act}
+use Rattle.poly_module.proofs.SpanLaws.{span_zero, span_add, span_act, span_ind}
 use Rattle.poly_module.proofs.Reduced.{difference, coef_difference, difference_zero}
 
 module _ {E : Type 0} (k : FieldOn E) where
@@ -34,6 +35,11 @@ module _ {E : Type 0} (k : FieldOn E) where
   pub spans_subspace : (vs : List (Vect k)) → IsSubspace k (Spans k vs)
   unfolding plus zero_vector
   spans_subspace vs = record { zero = span_zero (vectors k) vs; plus = λ u v a b. span_add (vectors k) vs u v a b; act = λ c u a. span_act (vectors k) vs c u a }
+
+  -- what holds of the keys of all members holds of the keys of each vector of the span
+  pub spans_supp : (Q : Key → Type 0) (vs : List (Vect k)) → ((w : Vect k) → In w vs → Supp k Q w) → (v : Vect k) → Spans k vs v → Supp k Q v
+  unfolding plus zero_vector
+  spans_supp Q = span_ind (vectors k) (Supp k Q) (supp_zero k Q) (λ u v a b. supp_plus k Q u v a b) (λ c u a. supp_act k Q c u a)
 
   -- a vector and its pivot
   abbrev pub Row : Type 0
@@ -134,4 +140,5 @@ module _ {E : Type 0} (k : FieldOn E) where
         go (inr n) = no (λ a. n.1.there (nothing (shadow_of_span l h v a) n.0))
           where
             nothing : shadow l v ≡ v → (t : Key) → coef_at k (left l v) t ≡ R0
-            nothing e t = ap (λ u. coef_at k (difference k v u) t) e ∙ coef_difference k v v t ∙ ap₂ (scalars k).◌+◌ (sym (rings.one_mul (scalars k) _)) refl ∙ sym (rings.add_mul (scalars k) (scalars k).one ((scalars k).neg (scalars k).one) _) ∙ ap (λ d. (scalars k).◌*◌ d (coef_at k v t)) ((scalars k).add_neg (scalars k).one) ∙ rings.zero_mul (scalars k) _
+            nothing e t = ap (λ u. coef_at k (difference k v u) t) e ∙ coef_difference k v v t ∙ ap₂ (scalars k).◌+◌ (sym (rings.one_mul (scalars k) _)) refl
+                ∙ sym (rings.add_mul (scalars k) (scalars k).one ((scalars k).neg (scalars k).one) _) ∙ ap (λ d. (scalars k).◌*◌ d (coef_at k v t)) ((scalars k).add_neg (scalars k).one) ∙ rings.zero_mul (scalars k) _

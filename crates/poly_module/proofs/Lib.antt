@@ -26,3 +26,9 @@ pub mod GreatestSteps
 pub mod TableSteps
 pub mod ValueSteps
 pub mod SumSteps
+pub mod MarkValues
+pub mod Exchange
+pub mod OverSpans
+pub mod FittingKeys
+pub mod HomogeneousSummands
+pub mod LeadLaws

@@ -1,7 +1,7 @@
 -- The elements of a module: sums, multiples, members, parts, and sums of multiples by scalars and monomials.
 use Rattle.std.proofs.Common.{◌≡◌, ℕ, ◌+◌, ◌-◌, ◌≤◌, List, [], ◌∷◌, ◌++◌, sym, ap, ap₂, ◌∙◌, refl, subst, arith, inl, inr}
 use native.Mathlib.Decide.{dec_le}
-use Rattle.alg_core.specs.Fields.{FieldOn, Scalar, scalars, is_field, scalar_of_value}
+use Rattle.alg_core.specs.Fields.{FieldOn, Scalar, scalars, is_field}
 use Rattle.alg_core.specs.KeyOrders.{OrderOn}
 use Rattle.alg_core.specs.CanonicalLists.{IsCanonical, coefficient_head, coefficient_below, indicator_no, terms, terms_canonical, class_terms}
 use Rattle.alg_core.specs.RingLaws as rings
@@ -12,21 +12,17 @@ use Rattle.alg_core.specs.Monomials.{Mon, monomials}
 use Rattle.alg_core.specs.Keys.{Key, key_same}
 use Rattle.alg_core.specs.Spaces.{SpaceOver}
 use Rattle.alg_core.specs.SpaceGrading.{degree}
-use Rattle.alg_core.specs.Vectors.{Vect, vectors, coef_at, plus, zero_vector, shift, scale}
+use Rattle.alg_core.specs.Vectors.{Vect, vectors, coef_at, plus, zero_vector, shift}
 use Rattle.alg_core.proofs.VectorLaws.{plus_assoc, plus_zero, zero_plus}
 use Rattle.poly_module.specs.Polynomials.{single_vector, one_vector, product}
 use Rattle.poly_module.specs.Products.{product_linear_left, product_plus, plus_product, product_assoc, product_zero, zero_product, one_product, shift_product, one_vector_single}
-use Rattle.poly_module.specs.Parts.{Supp, IsPolynomial, supp_single, supp_zero, supp_plus, supp_scale}
+use Rattle.poly_module.specs.Parts.{Supp, IsPolynomial, supp_single, supp_zero, supp_plus, supp_act}
 use Rattle.poly_module.specs.Degrees.{graded_part_plus, graded_part_zero, IsHomogeneous, part}
 use Rattle.poly_module.specs.Forms.{form_part, form_part_form, product_part, product_part_below}
 use Rattle.poly_module.specs.Variables.{product_polynomial, product_positions}
 use Rattle.poly_module.specs.Modules.{IsSubspace, ArePolynomials, multiples, summands, InModule}
 
 module _ {E : Type 0} (k : FieldOn E) where
-  polynomial_act : (c : Scalar k) (f : Vect k) → IsPolynomial k f → IsPolynomial k ((vectors k).◌·◌ c f)
-  unfolding scale
-  polynomial_act c f p = subst (λ d. IsPolynomial k ((vectors k).◌·◌ d f)) (scalar_of_value k c) (supp_scale k (λ t. t.0 ≡ 0) c.0 f p)
-
   pub polynomial_single : (m : Mon) → IsPolynomial k (single_vector k (0, m))
   polynomial_single m = supp_single k (λ t. t.0 ≡ 0) (0, m) refl
 
@@ -73,7 +69,7 @@ module _ {E : Type 0} (k : FieldOn E) where
 
     pub module_act : (c : Scalar k) (v : Vect k) → InModule k g v → InModule k g ((vectors k).◌·◌ c v)
     module_act c v a = subst (InModule k g) ((product_linear_left k v).act c (one_vector k) ∙ ap ((vectors k).◌·◌ c) (one_product k v))
-        (module_product ((vectors k).◌·◌ c (one_vector k)) v (polynomial_act c _ polynomial_one) a)
+        (module_product ((vectors k).◌·◌ c (one_vector k)) v (supp_act k (λ t. t.0 ≡ 0) c _ polynomial_one) a)
 
     pub module_subspace : IsSubspace k (InModule k g)
     module_subspace = record { zero = module_zero; plus = module_plus; act = module_act }

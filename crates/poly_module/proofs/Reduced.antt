@@ -17,7 +17,9 @@ use Rattle.alg_core.specs.SpaceOrder.{key_order}
 use Rattle.poly_module.specs.Parts.{Supp}
 use Rattle.poly_module.specs.Modules.{IsSubspace, LeadBy, InModule, IsBasis, listed}
 use Rattle.poly_module.specs.ReducedLists.{LeadsFall, IsReduced, FitsOrder, IsReducedBasis}
-use Rattle.poly_module.proofs.ModuleElements.{module_zero, module_subspace, module_positions, module_within}
+use Rattle.poly_module.proofs.ModuleElements.{module_zero, module_subspace, module_positions, module_within, module_part}
+use Rattle.alg_core.specs.SpaceGrading.{degree}
+use Rattle.poly_module.specs.Degrees.{IsHomogeneous, part, graded_part_inside, graded_part_outside, graded_part_graded}
 use Rattle.poly_module.proofs.KeyGrowth.{divisor_not_greater}
 
 module _ {E : Type 0} (k : FieldOn E) where
@@ -175,3 +177,42 @@ module _ {E : Type 0} (S : SpaceOver E) {I : Type 0} (g : I → Vect S.field) wh
       let c = a.reduced.covers v t within lead in
       let p = place_of_member S.field vs c.0 c.2 in
       (p.0, c.1, subst (λ w. LeadBy S.field (key_order S) w c.1) (sym p.1) c.3, c.4)
+
+module _ {E : Type 0} (S : SpaceOver E) {I : Type 0} (g : I → Vect S.field) (d : I → ℕ) (homogeneous : (i : I) → IsHomogeneous S (d i) (g i)) where
+  -- the members of a reduced basis of a module of homogeneous vectors are homogeneous
+  pub reduced_homogeneous : S.order.is_positive ≡ true → ((i : I) → Supp S.field (FitsOrder S) (g i)) → (vs : List (Vect S.field)) → IsReducedBasis S g vs
+      → (v : Vect S.field) (t : Key) → In v vs → LeadBy S.field (key_order S) v t → IsHomogeneous S (degree S t) v
+  unfolding coef_at zero_vector
+  reduced_homogeneous positive fits vs a v t i lead = go (has_lead (scalars S.field) (is_field S.field) key_same (key_order S) rest)
+    where
+      U : Vect S.field → Type 0
+      U = InModule S.field g
+
+      same_degree : Vect S.field
+      same_degree = part S (degree S t) v
+
+      rest : Vect S.field
+      rest = difference S.field v same_degree
+
+      inside : U rest
+      inside = subspace_difference S.field U (module_subspace S.field g) v same_degree (a.reduced.inside v i) (module_part S g d homogeneous (degree S t) v (a.reduced.inside v i))
+
+      -- a key of the rest is a key of v of another degree
+      none : (r : Key) → degree S r ≡ degree S t → coef_at S.field rest r ≡ (scalars S.field).zero
+      none r e = coef_difference S.field v same_degree r ∙ ap (λ c. (scalars S.field).◌+◌ (coef_at S.field v r) ((scalars S.field).◌*◌ ((scalars S.field).neg (scalars S.field).one) c)) (graded_part_inside S.field (degree S) (degree S t) v r e)
+          ∙ ap₂ (scalars S.field).◌+◌ (sym (rings.one_mul (scalars S.field) _)) refl ∙ sym (rings.add_mul (scalars S.field) (scalars S.field).one ((scalars S.field).neg (scalars S.field).one) _)
+          ∙ ap (λ c. (scalars S.field).◌*◌ c (coef_at S.field v r)) ((scalars S.field).add_neg (scalars S.field).one) ∙ rings.zero_mul (scalars S.field) _
+
+      kept : (r : Key) → ¬ (degree S r ≡ degree S t) → coef_at S.field rest r ≡ coef_at S.field v r
+      kept r n = coef_difference S.field v same_degree r ∙ ap ((scalars S.field).◌+◌ _) (ap ((scalars S.field).◌*◌ _) (graded_part_outside S.field (degree S) (degree S t) v r n) ∙ rings.mul_zero (scalars S.field) _) ∙ (scalars S.field).add_zero _
+
+      against : (r : Key) → LeadBy S.field (key_order S) rest r → ⊥
+      against r l =
+          let other : ¬ (degree S r ≡ degree S t) = λ e. l.there (none r e) in
+          let c = a.reduced.covers rest r inside l in
+          no_key S.field (key_order S) KeyDivides U (module_subspace S.field g) (divides_trans S g) (FitsOrder S) (module_positions S.field g (λ q. S.order.fits q (length S.weights) ≡ true) (λ q. Bool-discrete _ _) fits) (divisor_not_greater S positive)
+          vs a.reduced v i t r lead (λ e. other (ap (degree S) e)) (λ z. l.there (kept r other ∙ z)) c.0 c.1 c.2 c.3 c.4
+
+      go : HasLead (scalars S.field) (is_field S.field) key_same (key_order S) rest → IsHomogeneous S (degree S t) v
+      go (inl z) = subst (IsHomogeneous S (degree S t)) (sym (difference_zero S.field v same_degree z)) (graded_part_graded S.field (degree S) (degree S t) v)
+      go (inr l) = absurd (against l.0 l.1)

@@ -1,6 +1,7 @@
 -- Forms: homogeneous polynomials, whose degree is by the weights of the variables alone; degrees of products and values.
 --
 --   key_weight ws t        the weighted degree of the monomial of a key
+--   OfDegree k ws d t      the key t has position 0 and the degree d by the weights ws
 --   IsForm k ws d f        f is a homogeneous polynomial of degree d by the weights ws
 --   form_part k ws d f     the part of f of degree d by the weights ws
 --   AreForms k ws ds fs    the polynomials fs are forms of the degrees ds
@@ -26,6 +27,7 @@ use Rattle.poly_module.specs.Degrees.{IsGraded, graded_part, graded_part_graded,
 abbrev pub key_weight : List ℕ → Key → ℕ
 key_weight ws t = weight ws 0 t.1.0
 
+-- two decided facts are decided together
 pub dec_both : {A B : Type 0} → Dec A → Dec B → Dec (A × B)
 dec_both (yes a) (yes b) = yes (a, b)
 dec_both (yes a) (no b) = no (λ p. b p.1)
@@ -41,7 +43,7 @@ module _ {E : Type 0} (k : FieldOn E) (ws : List ℕ) where
 
   -- a homogeneous polynomial of degree d
   abbrev pub IsForm : ℕ → Vect k → Type 0
-  IsForm d f = Supp k (λ t. (t.0 ≡ 0) × (weight ws 0 t.1.0 ≡ d)) f
+  IsForm d f = Supp k (OfDegree d) f
 
   -- the part of degree d
   abbrev pub form_part : ℕ → Vect k → Vect k

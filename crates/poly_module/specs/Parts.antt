@@ -16,7 +16,7 @@ use Rattle.alg_core.specs.ModuleLaws as modules
 use Rattle.alg_core.specs.FormalSums.{regular, indicator}
 use Rattle.alg_core.specs.FreeModules.{extend, extend_linear, extend_single, linear_unique, coef_linear, coef_single, free_ind}
 use Rattle.alg_core.specs.CanonicalLists.{indicator_no}
-use Rattle.alg_core.specs.Fields.{FieldOn, Scalar, scalars, scalar, scalar_same}
+use Rattle.alg_core.specs.Fields.{FieldOn, Scalar, scalars, scalar, scalar_same, scalar_of_value}
 use Rattle.alg_core.specs.Monomials.{Mon}
 use Rattle.alg_core.specs.Keys.{Key, key_same, keys, times_key}
 use Rattle.alg_core.specs.Vectors.{Vect, vectors, coef_at, plus, zero_vector, scale, shift}
@@ -82,6 +82,10 @@ module _ {E : Type 0} (k : FieldOn E) where
 
   pub supp_scale : (Q : Key → Type 0) (c : E) (v : Vect k) → Supp Q v → Supp Q (scale k c v)
   supp_scale Q c v h t n = h t (λ z. n (coef_at_scale k c v t ∙ ap ((scalars k).◌*◌ (scalar k c)) z ∙ rings.mul_zero (scalars k) _))
+
+  pub supp_act : (Q : Key → Type 0) (c : Scalar k) (v : Vect k) → Supp Q v → Supp Q ((vectors k).◌·◌ c v)
+  unfolding scale
+  supp_act Q c v h = subst (λ d. Supp Q ((vectors k).◌·◌ d v)) (scalar_of_value k c) (supp_scale Q c.0 v h)
 
   pub coef_at_single : (s t : Key) → coef_at k (single_vector k s) t ≡ indicator (scalars k) (key_same s t)
   unfolding coef_at single_vector

@@ -1,6 +1,7 @@
 -- Substitutions that agree on variables or leave them alone, and what the keys of a value are.
 --
---   variables k n     the first n variables, as polynomials
+--   variables_from k i n   n variables, from the i-th on, as polynomials
+--   variables k n          the first n variables
 use Rattle.std.specs.Prelude.{◌≡◌, ℕ, zero, suc, ◌+◌, ◌<◌, ◌≤◌, List, [], ◌∷◌, length}
 use Rattle.std.proofs.Common.{inl, inr}
 use mathlib.Core.Path.{sym, ap, ap₂, ◌∙◌, refl, subst}
@@ -94,11 +95,12 @@ pub length_one : (n : ℕ) → length monomials.one.0 ≤ n
 length_one n = length_mon n monomials.one (λ i l. exponent_one i)
 
 module _ {E : Type 0} (k : FieldOn E) where
-  -- the first n variables
+  -- n variables, from the i-th on
   unfoldable pub variables_from : ℕ → ℕ → List (Vect k)
   variables_from i zero = []
   variables_from i (suc n) = variable_vector k i ∷ variables_from (suc i) n
 
+  -- the first n variables
   unfoldable pub variables : ℕ → List (Vect k)
   variables n = variables_from 0 n
 
@@ -140,6 +142,20 @@ module _ {E : Type 0} (k : FieldOn E) where
   image_variables i (suc n) zero h = ap (variable_vector k) (omega arith)
   image_variables i (suc n) (suc j) h = image_variables (suc i) n j (omega arith) ∙ ap (variable_vector k) (omega arith)
 
+  -- their images, and how many they are
+  pub variables_image : (n i : ℕ) → i < n → image (vector_ring k) (variables n) i ≡ variable_vector k i
+  unfolding variables
+  variables_image n i h = image_variables 0 n i h ∙ ap (variable_vector k) (omega arith)
+
+  pub length_variables_from : (i n : ℕ) → length (variables_from i n) ≡ n
+  unfolding variables_from
+  length_variables_from i zero = refl
+  length_variables_from i (suc n) = ap suc (length_variables_from (suc i) n)
+
+  pub length_variables : (n : ℕ) → length (variables n) ≡ n
+  unfolding variables
+  length_variables n = length_variables_from 0 n
+
   pub substitute_linear : (xs : List (Vect k)) → Linear (vectors k) (vectors k) (substitute k xs)
   unfolding polynomial_algebra polynomials
   substitute_linear xs = record { add = (substitute_homomorphism k xs).add; act = (substitute_homomorphism k xs).act }
@@ -157,8 +173,7 @@ module _ {E : Type 0} (k : FieldOn E) where
 
   -- a substitution that leaves the first n variables alone leaves polynomials in them alone
   pub substitute_fixed : (n : ℕ) (xs : List (Vect k)) → ((i : ℕ) → i < n → image (vector_ring k) xs i ≡ variable_vector k i) → (u : Vect k) → IsPolynomial k u → InVariables k n u → substitute k xs u ≡ u
-  unfolding variables
-  substitute_fixed n xs e u p v = substitute_agree n xs (variables n) (λ i h. e i h ∙ sym (image_variables 0 n i h ∙ ap (variable_vector k) (omega arith))) u v ∙ substitute_variables n u p v
+  substitute_fixed n xs e u p v = substitute_agree n xs (variables n) (λ i h. e i h ∙ sym (variables_image n i h)) u v ∙ substitute_variables n u p v
 
   -- polynomials for the variables give polynomials
   pub substitute_polynomial : (xs : List (Vect k)) → ((x : Vect k) → In x xs → IsPolynomial k x) → (u : Vect k) → IsPolynomial k (substitute k xs u)

@@ -1,13 +1,15 @@
-ghost use Rattle.std.specs.Prelude.{◌≡◌, ◌<◌, ◌+◌, ℕ, List, map, length, Bool, true};
+ghost use Rattle.std.specs.Prelude.{◌≡◌, ◌<◌, ◌≤◌, ◌+◌, ℕ, List, ◌++◌, map, length, Bool, true};
+ghost use Rattle.std.specs.declared.cmp.Ordering.TheVariants.{Less};
 ghost use Rattle.alg_core.specs.Rings.{Homomorphism};
 ghost use Rattle.alg_core.specs.Fields.{Scalar, scalars};
 ghost use Rattle.alg_core.specs.Monomials.{Mon, monomials};
-ghost use Rattle.alg_core.specs.Keys.{Key, keys};
+ghost use Rattle.alg_core.specs.Keys.{Key, keys, times_key};
 ghost use Rattle.alg_core.specs.KeyOrders.{OrderOn};
+ghost use Rattle.alg_core.specs.Lists.{In};
 ghost use Rattle.alg_core.specs.Vectors.{Vect, vectors, coef_at, plus, zero_vector, scale, shift};
 ghost use Rattle.alg_core.specs.Spaces.{over};
 ghost use Rattle.alg_core.specs.SpaceOrder.{key_order};
-ghost use Rattle.alg_core.specs.SpaceGrading.{degree};
+ghost use Rattle.alg_core.specs.SpaceGrading.{weight, degree};
 ghost use Rattle.poly_module.specs.Polynomials.{single_vector, one_vector, product, vector_ring, vector_algebra};
 ghost use Rattle.poly_module.specs.Substitutions.{image, monomial_value, variable_vector, position_vector, substitute};
 ghost use Rattle.poly_module.specs.Parts.{Supp, select, passing, IsPolynomial, InVariables};
@@ -16,7 +18,7 @@ ghost use Rattle.poly_module.specs.Degrees.{IsGraded, parts_below, IsHomogeneous
 ghost use Rattle.poly_module.specs.Forms.{key_weight, IsForm, form_part, AreForms};
 ghost use Rattle.poly_module.specs.Modules.{IsSubspace, InModule, summands, listed, IsBasis, LeadBy};
 ghost use Rattle.poly_module.specs.ReducedLists.{FitsOrder, IsReducedBasis};
-ghost use Rattle.poly_module.specs.Spans.{combine, Greedy};
+ghost use Rattle.poly_module.specs.Spans.{combine, Independent, Greedy};
 ghost use Rattle.poly_module.specs.Echelons.{Spans, IsEchelon};
 ghost use Rattle.poly_module.specs.Combinations.{mark_value, term_value, combination_value, Over, combination_degree};
 
@@ -77,6 +79,23 @@ pub fn vector_degrees<F: Field, O: TermOrder>(_space: &Space<F, O>)
         → part S (d + e) (product S.field f v) ≡ product S.field f (part S e v) }
 {}
 
+/// The lead of a multiple by a monomial is the multiple of the lead, that of a product of polynomials the
+/// product of the leads; smaller keys change no lead, and where lead terms cancel the lead is smaller.
+pub fn vector_leads<F: Field, O: TermOrder>(_space: &Space<F, O>)
+    ensures multiple { let S = over F.field O.order _space.now in (m : Mon) (v : Vect S.field) (t : Key)
+        → LeadBy S.field (key_order S) v t → LeadBy S.field (key_order S) (shift S.field m v) (times_key m t) }
+    ensures product { let S = over F.field O.order _space.now in (f g : Vect S.field) (m n : Mon)
+        → IsPolynomial S.field f → IsPolynomial S.field g → LeadBy S.field (key_order S) f (0, m) → LeadBy S.field (key_order S) g (0, n)
+        → LeadBy S.field (key_order S) (product S.field f g) (0, monomials.◌·◌ m n) }
+    ensures sum { let S = over F.field O.order _space.now in (u v : Vect S.field) (t : Key)
+        → LeadBy S.field (key_order S) u t → Supp S.field (λ s. (key_order S).compare s t ≡ Less) v
+        → LeadBy S.field (key_order S) (plus S.field u v) t }
+    ensures cancelled { let S = over F.field O.order _space.now in (u v : Vect S.field) (t r : Key)
+        → LeadBy S.field (key_order S) u t → LeadBy S.field (key_order S) v t
+        → (scalars S.field).◌+◌ (coef_at S.field u t) (coef_at S.field v t) ≡ (scalars S.field).zero
+        → LeadBy S.field (key_order S) (plus S.field u v) r → (key_order S).compare r t ≡ Less }
+{}
+
 /// Degrees of forms add in products, and forms for the variables take forms to forms.
 pub fn form_degrees<F: Field>(_field: &F)
     ensures product { let k = F.field _field.now in (ws : List ℕ) (d e : ℕ) (f g : Vect k)
@@ -85,7 +104,8 @@ pub fn form_degrees<F: Field>(_field: &F)
         → (d : ℕ) (u : Vect k) → IsGraded k (key_weight ds) d u → InVariables k (length fs) u → IsForm k ws d (substitute k fs u) }
 {}
 
-/// The elements of a module: it has its members, sums, polynomial multiples and homogeneous parts.
+/// The elements of a module: it has its members, sums, polynomial multiples and, where its members are
+/// homogeneous, parts; an element of one degree is a sum of multiples of members that all have it.
 pub fn module_elements<F: Field, O: TermOrder>(_space: &Space<F, O>)
     ensures subspace { let k = F.field _space.now.field in (g : ℕ → Vect k) → IsSubspace k (InModule k g) }
     ensures member { let k = F.field _space.now.field in (g : ℕ → Vect k) (i : ℕ) → InModule k g (g i) }
@@ -94,15 +114,24 @@ pub fn module_elements<F: Field, O: TermOrder>(_space: &Space<F, O>)
         → (l : List (Scalar k × Mon × ℕ)) × (summands k g l ≡ v) }
     ensures part { let S = over F.field O.order _space.now in (g : ℕ → Vect S.field) (d : ℕ → ℕ)
         → ((i : ℕ) → IsHomogeneous S (d i) (g i)) → (e : ℕ) (v : Vect S.field) → InModule S.field g v → InModule S.field g (part S e v) }
+    ensures homogeneous { let S = over F.field O.order _space.now in (g : ℕ → Vect S.field) (d : ℕ → ℕ)
+        → ((i : ℕ) → IsHomogeneous S (d i) (g i)) → (n : ℕ) (v : Vect S.field) → IsHomogeneous S n v → InModule S.field g v
+        → (l : List (Scalar S.field × Mon × ℕ)) × ((e : Scalar S.field × Mon × ℕ) → In e l → weight S.weights 0 e.1.0 + d e.2 ≡ n)
+        × (summands S.field g l ≡ v) }
 {}
 
-/// By a positive order a module has at most one reduced basis, and that is a basis.
+/// By a positive order a module has at most one reduced basis, and that is a basis; its members are
+/// homogeneous where the generators are.
 pub fn reduced_bases<F: Field, O: TermOrder>(_space: &Space<F, O>)
     ensures unique { let S = over F.field O.order _space.now in S.order.is_positive ≡ true
         → (g : ℕ → Vect S.field) → ((i : ℕ) → Supp S.field (FitsOrder S) (g i))
         → (vs ws : List (Vect S.field)) → IsReducedBasis S g vs → IsReducedBasis S g ws → vs ≡ ws }
     ensures basis { let S = over F.field O.order _space.now in (g : ℕ → Vect S.field)
         → (vs : List (Vect S.field)) → IsReducedBasis S g vs → IsBasis S.field (listed S.field vs) (key_order S) }
+    ensures homogeneous { let S = over F.field O.order _space.now in (g : ℕ → Vect S.field) (d : ℕ → ℕ)
+        → ((i : ℕ) → IsHomogeneous S (d i) (g i)) → S.order.is_positive ≡ true → ((i : ℕ) → Supp S.field (FitsOrder S) (g i))
+        → (vs : List (Vect S.field)) → IsReducedBasis S g vs
+        → (v : Vect S.field) (t : Key) → In v vs → LeadBy S.field (key_order S) v t → IsHomogeneous S (degree S t) v }
 {}
 
 /// A finite list of vectors has one reduced echelon list, whether a vector lies in its span is decided,
@@ -116,6 +145,15 @@ pub fn echelon_lists<F: Field, O: TermOrder>(_space: &Space<F, O>)
     ensures split { let k = F.field _space.now.field in (o : OrderOn Key) (vs : List (Vect k)) (v : Vect k)
         → (s : Vect k) × (g : Vect k) × Spans k vs s × (plus k g s ≡ v)
         × ((w : Vect k) (t : Key) → Spans k vs w → LeadBy k o w t → coef_at k g t ≡ (scalars k).zero) }
+{}
+
+/// The reduced echelon list of a span is independent, and independent lists with the same span have the
+/// same length.
+pub fn independent_lists<F: Field, O: TermOrder>(_space: &Space<F, O>)
+    ensures echelon { let k = F.field _space.now.field in (o : OrderOn Key) (vs ws : List (Vect k))
+        → IsEchelon k o (Spans k vs) ws → Independent (vectors k) ws }
+    ensures length { let k = F.field _space.now.field in (us ws : List (Vect k)) → Independent (vectors k) us → Independent (vectors k) ws
+        → ((u : Vect k) → In u us → Spans k ws u) → ((w : Vect k) → In w ws → Spans k us w) → length us ≡ length ws }
 {}
 
 /// Of all combinations of a list of vectors with one sum just one gives the coefficient 0 to each
@@ -146,4 +184,28 @@ pub fn combinations<F: Field>(_field: &F)
         → (f : Vect k) → Over k θ S f → Over k θ T f }
     ensures part { let k = F.field _field.now in (ws ds es : List ℕ) (θ S : List (Vect k)) → AreForms k ws ds θ → AreForms k ws es S
         → (d : ℕ) (f : Vect k) → Over k θ S f → Over k θ S (form_part k ws d f) }
+{}
+
+/// A polynomial in the variables is its own value, a mark has the polynomial of its place as value, and
+/// over forms the value of a homogeneous polynomial is a form of its degree.
+pub fn mark_values<F: Field>(_field: &F)
+    ensures variables { let k = F.field _field.now in (n : ℕ) (θ : List (Vect k)) (u : Vect k) → IsPolynomial k u → InVariables k n u
+        → mark_value k n θ u ≡ u }
+    ensures mark { let k = F.field _field.now in (n : ℕ) (θ : List (Vect k)) (j : ℕ)
+        → mark_value k n θ (variable_vector k (n + j)) ≡ image (vector_ring k) θ j }
+    ensures degree { let k = F.field _field.now in (ws ds : List ℕ) (θ : List (Vect k)) → AreForms k ws ds θ → (d : ℕ) (u : Vect k)
+        → IsGraded k (key_weight (ws ++ ds)) d u → InVariables k (length ws + length θ) u → IsForm k ws d (mark_value k (length ws) θ u) }
+{}
+
+/// Over forms, a form is a combination exactly where it lies in the span of the values of the terms of
+/// its degree, of which L is a list.
+pub fn combinations_in_degree<F: Field, O: TermOrder>(_space: &Space<F, O>)
+    ensures span { let k = F.field _space.now.field in (θ S : List (Vect k)) (ws ds es : List ℕ) → AreForms k ws ds θ → AreForms k ws es S
+        → (d : ℕ) (L : List Key)
+        → ((t : Key) → length t.1.0 ≤ length θ → t.0 < length S → combination_degree ds es t ≡ d → In t L)
+        → ((t : Key) → In t L → (length t.1.0 ≤ length θ) × (t.0 < length S))
+        → (f : Vect k) → IsForm k ws d f → Over k θ S f → Spans k (map (term_value k θ S) L) f }
+    ensures over { let k = F.field _space.now.field in (θ S : List (Vect k)) (L : List Key)
+        → ((t : Key) → In t L → (length t.1.0 ≤ length θ) × (t.0 < length S))
+        → (f : Vect k) → Spans k (map (term_value k θ S) L) f → Over k θ S f }
 {}

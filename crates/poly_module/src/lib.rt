@@ -18,8 +18,9 @@ mod whole;
 pub use degrees::{degree, is_homogeneous};
 pub use greatest::lead;
 pub use laws::{
-    combinations, echelon_lists, form_degrees, greedy_choices, module_elements, reduced_bases,
-    selections, substitutions, vector_degrees, vector_products,
+    combinations, combinations_in_degree, echelon_lists, form_degrees, greedy_choices,
+    independent_lists, mark_values, module_elements, reduced_bases, selections, substitutions,
+    vector_degrees, vector_leads, vector_products,
 };
 pub use merge::{add, sub};
 pub use multiple::{mul_term, scale};
