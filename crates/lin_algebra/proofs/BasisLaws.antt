@@ -1,13 +1,10 @@
 -- The steps of elimination on rows of values.
-use Rattle.std.proofs.Common.{◌≡◌, ◌≢◌, ℕ, zero, suc, ◌+◌, ◌<◌, ◌≤◌, inl, inr, List, [], ◌∷◌, ◌++◌, map, length, take, drop, get_or, set, All, Option, Some, IfSome, sym, ap, ap₂, ◌∙◌, refl, arith, subst}
+use Rattle.std.proofs.Common.{◌≡◌, ℕ, zero, suc, ◌+◌, ◌<◌, ◌≤◌, inl, inr, List, [], ◌∷◌, ◌++◌, map, length, take, drop, get_or, set, All, Option, Some, IfSome, sym, ap, ap₂, ◌∙◌, arith, subst}
 use Rattle.std.specs.List.{insert, AllByRecursion as Each}
 use Rattle.std.specs.Vec.{with_items}
 use Rattle.std.proofs.lemmas.List.{with_items_is, drop_more, drop_all, get_or_read, get_or-map, map-set, map-append, take-map, drop-map, length-map, ext_get_or, get_or_default, length-take-le, get_or-take}
 use Rattle.std.proofs.lemmas.List.Elements.{All-set, All-from_recursion, recursion_from_All}
 use Rattle.lin_algebra.proofs.EachLaws.{In, Each_map, Each_of_map}
-use Rattle.alg_core.specs.Rings.{Ring}
-use Rattle.alg_core.specs.RingLaws as rings
-use Rattle.alg_core.specs.ModuleLaws as modules
 use Rattle.alg_core.specs.Fields.{FieldOn, Has, Scalar, scalars, scalar, scalar_zero, scalar_one, scalar_mul, scalar_neg}
 use Rattle.lin_algebra.specs.declared.elimination.BasisRow.{BasisRow}
 use Rattle.lin_algebra.specs.Vectors.{vectors, vector, IsRow}

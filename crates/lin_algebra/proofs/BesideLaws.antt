@@ -1,12 +1,12 @@
 -- The rows of two matrices side by side.
-use Rattle.std.proofs.Common.{◌≡◌, ℕ, zero, suc, ◌+◌, ◌-◌, ◌*◌, ◌<◌, ◌≤◌, ◌⊎◌, inl, inr, Bool, true, false, List, [], ◌∷◌, ◌++◌, map, length, take, drop, get_or, nat_lt, All, sym, ap, ap₂, ◌∙◌, refl, arith, subst}
+use Rattle.std.proofs.Common.{◌≡◌, ℕ, zero, suc, ◌+◌, ◌-◌, ◌*◌, ◌<◌, ◌≤◌, ◌⊎◌, inl, inr, true, false, List, [], ◌∷◌, ◌++◌, map, length, drop, get_or, nat_lt, sym, ap, ap₂, ◌∙◌, refl, arith}
 use Rattle.std.specs.Prelude.{if◌then◌else◌}
 use Rattle.std.specs.List.{AllByRecursion as Each}
 use Rattle.std.proofs.lemmas.Bool.{cases_lt}
 use Rattle.std.proofs.lemmas.Bool.Decides.{nat_tests}
-use Rattle.std.proofs.lemmas.List.{get_or_append_left, get_or-append_right, length-append, get_or-map, length-map, take_all, get_or-take, get_or-drop}
+use Rattle.std.proofs.lemmas.List.{get_or_append_left, get_or-append_right, length-append, take_all, get_or-take, get_or-drop}
 use Rattle.std.proofs.lemmas.List.Elements.{All-append}
-use Rattle.alg_core.specs.Fields.{FieldOn, Has, Scalar, scalars, scalar}
+use Rattle.alg_core.specs.Fields.{FieldOn, Has, scalar}
 use Rattle.lin_algebra.specs.declared.matrix.Matrix.{Matrix}
 use Rattle.lin_algebra.specs.Vectors.{vector, IsRow}
 use Rattle.lin_algebra.specs.Matrices.{rows_of, joined, beside, entries, IsMatrix}

@@ -1,16 +1,14 @@
 -- A row more in a reduced echelon list: the others are cleared at its pivot, and it takes its place.
-use Rattle.std.proofs.Common.{◌≡◌, ◌≢◌, ℕ, zero, suc, ◌<◌, ◌≤◌, ◌⊎◌, inl, inr, List, [], ◌∷◌, ◌++◌, map, sym, ap, ap₂, ◌∙◌, refl, arith, subst}
+use Rattle.std.proofs.Common.{◌≡◌, ◌≢◌, ℕ, ◌<◌, ◌⊎◌, inl, inr, List, [], ◌∷◌, ◌++◌, map, sym, ap, ap₂, ◌∙◌, arith, subst}
 use Rattle.std.specs.List.{AllByRecursion as Each}
 use Rattle.alg_core.specs.Rings.{Ring}
 use Rattle.alg_core.specs.RingLaws as rings
-use Rattle.alg_core.specs.ModuleLaws as modules
 use Rattle.lin_algebra.specs.Vectors.{vectors}
 use Rattle.lin_algebra.specs.Spans.{InSpan, SameSpan}
 use Rattle.lin_algebra.specs.Echelons.{PivotRow, rows, IsPivotRow, Precedes, IsReducedEchelon}
 use Rattle.lin_algebra.proofs.EachLaws.{Each_weaker, Each_both, Each_append, Each_append_left, Each_append_right, Each_map, three_ways}
 use Rattle.lin_algebra.proofs.SpanLaws.{span_member, span_add, span_act, span_head, span_tail, span_within, SameSpan_from}
-use Rattle.lin_algebra.proofs.EchelonLaws.{zero_at_earlier}
-use Rattle.lin_algebra.specs.Bases.{cleared_at, cleared, reduced_by}
+use Rattle.lin_algebra.specs.Bases.{cleared}
 
 module _ {K : Type 0} (R : Ring K) where
   abbrev V : Type 0

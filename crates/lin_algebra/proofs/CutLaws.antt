@@ -4,7 +4,7 @@ use Rattle.std.specs.List.{flat_map, AllByRecursion as Each}
 use Rattle.std.proofs.lemmas.List.{drop-drop, length-take-le, length-drop, length-append, take_at, drop_at, get_or_past, map_more, take_all, take_more, map-append, get_or-map, get_or_append_left, get_or_push, take-append-le, drop-append-le}
 use Rattle.std.proofs.lemmas.Bool.{cases_lt}
 use Rattle.std.proofs.lemmas.List.Elements.{All-take, All-drop, All-from_recursion}
-use Rattle.alg_core.specs.Fields.{FieldOn, Has, Scalar, scalars, scalar, scalar_zero}
+use Rattle.alg_core.specs.Fields.{FieldOn, Has, Scalar, scalars, scalar_zero}
 use Rattle.lin_algebra.specs.declared.matrix.Matrix.{Matrix}
 use Rattle.lin_algebra.specs.Vectors.{vector, IsRow}
 use Rattle.lin_algebra.specs.Matrices.{cut, rows_of, entries, vectors_of, IsMatrix}

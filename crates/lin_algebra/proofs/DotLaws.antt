@@ -1,6 +1,5 @@
 -- Sums of products over the first n columns.
-use Rattle.std.proofs.Common.{◌≡◌, ◌≢◌, ℕ, zero, suc, ◌<◌, ◌≤◌, ◌⊎◌, inl, inr, sym, ap, ap₂, ◌∙◌, refl, arith, subst}
-use Rattle.std.proofs.lemmas.Bool.{cases_lt}
+use Rattle.std.proofs.Common.{◌≡◌, ◌≢◌, ℕ, zero, suc, ◌<◌, ◌≤◌, sym, ap, ap₂, ◌∙◌, refl, arith}
 use native.Mathlib.Decide.{ℕ_discrete}
 use Rattle.alg_core.specs.Rings.{Ring}
 use Rattle.alg_core.specs.RingLaws as rings

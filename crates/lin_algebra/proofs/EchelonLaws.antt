@@ -1,13 +1,13 @@
 -- A reduced echelon list is determined by its span.
-use Rattle.std.proofs.Common.{◌≡◌, ◌≢◌, ℕ, zero, suc, ◌<◌, ◌≤◌, ◌⊎◌, inl, inr, List, [], ◌∷◌, ◌++◌, map, sym, ap, ap₂, ◌∙◌, refl, arith, subst}
+use Rattle.std.proofs.Common.{◌≡◌, ◌≢◌, ℕ, ◌<◌, ◌⊎◌, inl, inr, List, [], ◌∷◌, sym, ap, ap₂, ◌∙◌, refl, arith, subst}
 use Rattle.std.specs.List.{AllByRecursion as Each}
-use Rattle.alg_core.specs.Rings.{Ring, IsField}
+use Rattle.alg_core.specs.Rings.{Ring}
 use Rattle.alg_core.specs.RingLaws as rings
 use Rattle.alg_core.specs.ModuleLaws as modules
 use Rattle.lin_algebra.specs.Vectors.{vectors}
 use Rattle.lin_algebra.specs.Spans.{InSpan, SameSpan}
 use Rattle.lin_algebra.specs.Echelons.{PivotRow, rows, IsPivotRow, Precedes, IsReducedEchelon}
-use Rattle.lin_algebra.proofs.EachLaws.{In, Each_at, Each_from, Each_weaker, Each_both, Each_append, Each_append_left, Each_append_right, Each_map, Each_of_map, three_ways}
+use Rattle.lin_algebra.proofs.EachLaws.{In, Each_at, Each_from, Each_weaker, Each_both, Each_map, Each_of_map, three_ways}
 use Rattle.lin_algebra.proofs.SpanLaws.{span_ind, span_member, span_add, span_act}
 use native.Mathlib.Decide.{ℕ_discrete}
 

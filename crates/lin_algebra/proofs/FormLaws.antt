@@ -1,18 +1,15 @@
 -- From a reduced echelon list to a matrix, and to its kernel vectors.
-use Rattle.std.proofs.Common.{◌≡◌, ℕ, zero, suc, ◌+◌, ◌*◌, ◌<◌, ◌≤◌, ◌⊎◌, inl, inr, List, [], ◌∷◌, ◌++◌, map, length, take, drop, get_or, All, Vec, Global, sym, ap, ap₂, ◌∙◌, refl, arith, subst}
+use Rattle.std.proofs.Common.{◌≡◌, ℕ, zero, suc, ◌+◌, ◌*◌, ◌<◌, List, [], ◌∷◌, ◌++◌, map, length, take, drop, get_or, All, Vec, Global, sym, ap, ap₂, ◌∙◌, refl, arith, subst}
 use Rattle.std.specs.List.{flat_map, zip, AllByRecursion as Each}
-use Rattle.std.proofs.lemmas.Bool.{cases_lt}
-use Rattle.std.proofs.lemmas.List.{take_more, map-append, length-map, get_or_read, take_all, take-append-drop, length-drop}
+use Rattle.std.proofs.lemmas.List.{take_more, map-append, length-map, get_or_read, take-append-drop, length-drop}
 use Rattle.std.proofs.lemmas.List.Elements.{recursion_from_All, All-from_recursion, All-append}
-use Rattle.alg_core.specs.Rings.{Ring}
-use Rattle.alg_core.specs.RingLaws as rings
 use Rattle.alg_core.specs.Fields.{FieldOn, Has, Scalar, scalars, scalar, scalar_one, scalar_neg}
 use Rattle.lin_algebra.specs.declared.elimination.BasisRow.{BasisRow}
 use Rattle.lin_algebra.specs.declared.matrix.Matrix.{Matrix}
-use Rattle.lin_algebra.specs.Vectors.{vectors, vector, unit, dot, IsRow}
+use Rattle.lin_algebra.specs.Vectors.{vectors, vector, unit, IsRow}
 use Rattle.lin_algebra.specs.Matrices.{cut, rows_of, vectors_of, IsMatrix}
-use Rattle.lin_algebra.specs.Echelons.{PivotRow, IsReducedEchelon}
-use Rattle.lin_algebra.specs.Bases.{basis_rows, rows_of_basis, IsBasis}
+use Rattle.lin_algebra.specs.Echelons.{PivotRow}
+use Rattle.lin_algebra.specs.Bases.{basis_rows, rows_of_basis}
 use Rattle.lin_algebra.specs.Kernels.{particular, kernel_vector}
 use Rattle.lin_algebra.proofs.EachLaws.{Each_map, Each_of_map, Each_weaker}
 use Rattle.lin_algebra.proofs.CutLaws.{cut_flat, length_flat}

@@ -1,18 +1,18 @@
 -- From the list that elimination keeps to the inverse matrix.
-use Rattle.std.proofs.Common.{◌≡◌, ◌≢◌, ℕ, zero, suc, ◌+◌, ◌*◌, ◌-◌, ◌<◌, ◌≤◌, List, [], ◌∷◌, map, length, drop, get_or, All, sym, ap, ap₂, ◌∙◌, refl, arith, subst}
-use Rattle.std.proofs.lemmas.List.{get_or-drop, length-drop, length-map}
+use Rattle.std.proofs.Common.{◌≡◌, ℕ, zero, suc, ◌+◌, ◌<◌, List, [], ◌∷◌, map, length, drop, get_or, sym, ap, ap₂, ◌∙◌, refl, arith, subst}
+use Rattle.std.proofs.lemmas.List.{get_or-drop, length-drop}
 use Rattle.std.proofs.lemmas.List.Elements.{All-drop}
 use Rattle.alg_core.specs.Rings.{Ring}
 use Rattle.alg_core.specs.Fields.{FieldOn, Has, Scalar, scalars, scalar}
 use Rattle.lin_algebra.specs.declared.elimination.BasisRow.{BasisRow}
 use Rattle.lin_algebra.specs.declared.matrix.Matrix.{Matrix}
-use Rattle.lin_algebra.specs.Vectors.{vectors, vector, unit, dot, IsRow}
+use Rattle.lin_algebra.specs.Vectors.{vectors, vector, unit, IsRow}
 use Rattle.lin_algebra.specs.Spans.{SameSpan}
-use Rattle.lin_algebra.specs.Matrices.{rows_of, joined, beside, entries, product, IsMatrix, IsIdentity, IsInverse}
+use Rattle.lin_algebra.specs.Matrices.{rows_of, joined, beside, entries, IsMatrix, IsInverse}
 use Rattle.lin_algebra.specs.Echelons.{PivotRow}
 use Rattle.lin_algebra.specs.Bases.{basis_rows, rows_of_basis}
 use Rattle.lin_algebra.proofs.DotLaws.{dot_same}
-use Rattle.lin_algebra.proofs.BasisLaws.{no_row, length_basis_rows}
+use Rattle.lin_algebra.proofs.BasisLaws.{no_row}
 use Rattle.lin_algebra.proofs.CutLaws.{listing, listing_same}
 use Rattle.lin_algebra.proofs.BesideLaws.{vectors_beside}
 use Rattle.lin_algebra.proofs.InverseLaws.{augmented}

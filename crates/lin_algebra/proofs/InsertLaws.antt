@@ -1,5 +1,5 @@
 -- What elimination makes of a row and of the list that it goes into.
-use Rattle.std.proofs.Common.{◌≡◌, ◌≢◌, ℕ, zero, suc, ◌+◌, ◌<◌, ◌≤◌, ◌⊎◌, inl, inr, List, [], ◌∷◌, ◌++◌, map, length, take, drop, get_or, sym, ap, ap₂, ◌∙◌, refl, arith, subst}
+use Rattle.std.proofs.Common.{◌≡◌, ◌≢◌, ℕ, ◌+◌, ◌<◌, ◌≤◌, ◌⊎◌, inl, inr, List, [], ◌∷◌, ◌++◌, map, length, take, drop, get_or, sym, ap, ◌∙◌, refl, arith, subst}
 use Rattle.std.specs.List.{AllByRecursion as Each}
 use Rattle.std.proofs.lemmas.Bool.{cases_lt}
 use Rattle.std.proofs.lemmas.List.{map-append, take-append-drop, drop_more, drop_all}
@@ -8,10 +8,10 @@ use Rattle.alg_core.specs.RingLaws as rings
 use Rattle.alg_core.specs.ModuleLaws as modules
 use Rattle.lin_algebra.specs.Vectors.{vectors}
 use Rattle.lin_algebra.specs.Spans.{InSpan, SameSpan}
-use Rattle.lin_algebra.specs.Echelons.{PivotRow, rows, IsPivotRow, Precedes, IsReducedEchelon}
+use Rattle.lin_algebra.specs.Echelons.{PivotRow, rows, Precedes, IsReducedEchelon}
 use Rattle.lin_algebra.specs.Bases.{cleared_at, cleared, reduced_by, IsMonicMultiple, IsPutIn}
 use Rattle.lin_algebra.proofs.EachLaws.{Each_weaker, Each_both, Each_append, Each_append_left, Each_append_right, Each_map}
-use Rattle.lin_algebra.proofs.SpanLaws.{span_zero, span_add, span_act, span_head, span_tail, span_member, span_within, span_append_left, span_append_right, SameSpan_from}
+use Rattle.lin_algebra.proofs.SpanLaws.{span_zero, span_add, span_act, span_head, span_tail, span_member, span_append_left, span_append_right, SameSpan_from}
 use Rattle.lin_algebra.proofs.EchelonLaws.{zero_at_earlier}
 use Rattle.lin_algebra.proofs.ChangeLaws.{IsNew, cleared_zero, IsReducedEchelon_cleared, IsReducedEchelon_insert, span_cleared}
 

@@ -1,11 +1,9 @@
 -- The inverse of a matrix by the reduced echelon form of the matrix and the identity.
-use Rattle.std.proofs.Common.{◌≡◌, ◌≢◌, ℕ, zero, suc, ◌+◌, ◌-◌, ◌<◌, ◌≤◌, ◌⊎◌, inl, inr, List, [], ◌∷◌, ◌++◌, map, length, get_or, sym, ap, ap₂, ◌∙◌, refl, arith, subst}
-use Rattle.std.specs.List.{AllByRecursion as Each}
+use Rattle.std.proofs.Common.{◌≡◌, ℕ, zero, suc, ◌+◌, ◌-◌, ◌<◌, ◌≤◌, ◌⊎◌, inl, inr, List, [], ◌∷◌, ◌++◌, map, length, get_or, sym, ap, ap₂, ◌∙◌, refl, arith, subst}
 use Rattle.std.proofs.lemmas.Bool.{cases_lt}
-use Rattle.std.proofs.lemmas.List.{map-append, append-nil, ext_get_or, get_or_default}
+use Rattle.std.proofs.lemmas.List.{map-append, append-nil, ext_get_or}
 use native.Mathlib.Decide.{ℕ_discrete}
 use Rattle.alg_core.specs.Rings.{Ring}
-use Rattle.alg_core.specs.RingLaws as rings
 use Rattle.alg_core.specs.ModuleLaws as modules
 use Rattle.lin_algebra.specs.Vectors.{vectors, dot, unit}
 use Rattle.lin_algebra.specs.Spans.{InSpan, SameSpan}
@@ -19,7 +17,6 @@ use Rattle.lin_algebra.proofs.ChangeLaws.{IsReducedEchelon_insert}
 use Rattle.lin_algebra.proofs.KernelLaws.{span_total}
 use Rattle.lin_algebra.proofs.CutLaws.{listing, length_listing, get_or-listing}
 use Rattle.lin_algebra.proofs.KernelOf.{Each_listing, span_listing}
-use Rattle.lin_algebra.proofs.InsertLaws.{SameSpan_trans}
 use Rattle.lin_algebra.proofs.BesideLaws.{beside_left, beside_right}
 use Rattle.lin_algebra.proofs.SolutionLaws.{pivot_row_in_span}
 

@@ -1,16 +1,15 @@
 -- The kernel of a matrix by its reduced echelon form.
-use Rattle.std.proofs.Common.{◌≡◌, ◌≢◌, ℕ, zero, suc, ◌<◌, ◌≤◌, ◌⊎◌, inl, inr, List, [], ◌∷◌, ◌++◌, map, sym, ap, ap₂, ◌∙◌, refl, arith, subst}
+use Rattle.std.proofs.Common.{◌≡◌, ℕ, zero, suc, ◌<◌, ◌≤◌, ◌⊎◌, inl, inr, List, [], ◌∷◌, ◌++◌, sym, ap, ap₂, ◌∙◌, refl, arith}
 use Rattle.std.specs.List.{AllByRecursion as Each}
 use Rattle.std.proofs.lemmas.Bool.{cases_lt}
 use Rattle.alg_core.specs.Rings.{Ring}
 use Rattle.alg_core.specs.RingLaws as rings
 use Rattle.alg_core.specs.ModuleLaws as modules
 use Rattle.lin_algebra.specs.Vectors.{vectors, dot, unit}
-use Rattle.lin_algebra.specs.Spans.{InSpan, SameSpan}
+use Rattle.lin_algebra.specs.Spans.{InSpan}
 use Rattle.lin_algebra.specs.Echelons.{PivotRow, rows, IsReducedEchelon}
-use Rattle.lin_algebra.proofs.EachLaws.{Each_both, Each_of_map}
 use Rattle.lin_algebra.proofs.SpanLaws.{span_ind, span_zero, span_add, span_act}
-use Rattle.lin_algebra.proofs.DotLaws.{dot_zero, dot_add, dot_act, dot_comm, dot_add_right, dot_act_right, dot_unit, dot_unit_past, dot_same, unit_comm, unit_other}
+use Rattle.lin_algebra.proofs.DotLaws.{dot_zero, dot_add, dot_act, dot_comm, dot_add_right, dot_act_right, dot_unit, dot_unit_past, dot_same, unit_comm}
 use Rattle.lin_algebra.proofs.EchelonLaws.{by_pivots, by_pivots_span}
 use Rattle.lin_algebra.specs.Kernels.{particular, kernel_vector}
 

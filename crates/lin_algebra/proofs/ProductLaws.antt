@@ -1,10 +1,8 @@
 -- The product of matrices, row by row.
-use Rattle.std.proofs.Common.{◌≡◌, ℕ, zero, suc, ◌+◌, ◌<◌, ◌≤◌, ◌⊎◌, inl, inr, List, [], ◌∷◌, ◌++◌, map, length, get_or, All, sym, ap, ap₂, ◌∙◌, refl, arith, subst}
+use Rattle.std.proofs.Common.{◌≡◌, ℕ, suc, ◌+◌, ◌<◌, ◌≤◌, ◌⊎◌, inl, inr, List, [], length, get_or, sym, ap, ap₂, ◌∙◌, arith}
 use Rattle.std.proofs.lemmas.Bool.{cases_lt}
 use Rattle.std.proofs.lemmas.List.{get_or_read}
-use Rattle.alg_core.specs.Rings.{Ring}
-use Rattle.alg_core.specs.RingLaws as rings
-use Rattle.alg_core.specs.Fields.{FieldOn, Has, Scalar, scalars, scalar}
+use Rattle.alg_core.specs.Fields.{FieldOn, Scalar, scalars, scalar}
 use Rattle.lin_algebra.specs.declared.matrix.Matrix.{Matrix}
 use Rattle.lin_algebra.specs.Vectors.{vectors, dot, vector}
 use Rattle.lin_algebra.specs.Matrices.{rows_of, entries, vectors_of, product}

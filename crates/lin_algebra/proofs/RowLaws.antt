@@ -1,12 +1,11 @@
 -- Rows of values: a row written entry by entry, and what becomes of its vector.
-use Rattle.std.proofs.Common.{◌≡◌, ◌≢◌, ℕ, zero, suc, ◌+◌, ◌<◌, ◌≤◌, ◌⊎◌, inl, inr, List, [], ◌∷◌, ◌++◌, length, get_or, set, take, drop, All, sym, ap, ap₂, ◌∙◌, refl, arith, subst, true, false}
+use Rattle.std.proofs.Common.{◌≡◌, ℕ, ◌+◌, ◌<◌, ◌≤◌, ◌⊎◌, inl, inr, List, length, get_or, set, All, sym, ap, ap₂, ◌∙◌, refl, arith}
 use Rattle.std.proofs.lemmas.Bool.{cases_lt}
-use Rattle.std.proofs.lemmas.List.{get_or_read, get_or_past, get_or-set_same, get_or-set_other, length-set, get_or_append_left, get_or-append_right, get_or_default}
-use Rattle.std.proofs.lemmas.List.Elements.{All-get_or, All-weaker}
+use Rattle.std.proofs.lemmas.List.{get_or_read, get_or_past, get_or-set_same, get_or-set_other}
+use Rattle.std.proofs.lemmas.List.Elements.{All-weaker}
 use native.Mathlib.Decide.{ℕ_discrete}
-use Rattle.alg_core.specs.Rings.{Ring}
 use Rattle.alg_core.specs.RingLaws as rings
-use Rattle.alg_core.specs.Fields.{FieldOn, Has, Exact, Scalar, scalars, scalar, scalar_zero, scalar_one, scalar_add, scalar_mul, scalar_injective}
+use Rattle.alg_core.specs.Fields.{FieldOn, Has, scalars, scalar, scalar_zero, scalar_add, scalar_mul, scalar_injective}
 use Rattle.lin_algebra.specs.Vectors.{vectors, vector, unit, IsRow}
 use Rattle.lin_algebra.proofs.DotLaws.{unit_at, unit_other}
 

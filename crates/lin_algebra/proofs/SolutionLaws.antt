@@ -1,10 +1,10 @@
 -- Linear systems by the reduced echelon form of the matrix and the right side.
-use Rattle.std.proofs.Common.{◌≡◌, ◌≢◌, ℕ, zero, suc, ◌+◌, ◌-◌, ◌<◌, ◌≤◌, ◌⊎◌, inl, inr, List, [], ◌∷◌, ◌++◌, map, sym, ap, ap₂, ◌∙◌, refl, arith, subst}
+use Rattle.std.proofs.Common.{◌≡◌, ◌≢◌, ℕ, suc, ◌<◌, ◌⊎◌, inl, inr, List, [], ◌∷◌, sym, ap, ap₂, ◌∙◌, refl, arith}
 use Rattle.std.specs.List.{AllByRecursion as Each}
 use native.Mathlib.Decide.{ℕ_discrete}
 use Rattle.alg_core.specs.Rings.{Ring}
 use Rattle.alg_core.specs.RingLaws as rings
-use Rattle.lin_algebra.specs.Vectors.{vectors, dot, unit}
+use Rattle.lin_algebra.specs.Vectors.{vectors, dot}
 use Rattle.lin_algebra.specs.Spans.{InSpan, SameSpan}
 use Rattle.lin_algebra.specs.Matrices.{beside}
 use Rattle.lin_algebra.specs.Echelons.{PivotRow, rows, IsPivotRow, IsReducedEchelon}

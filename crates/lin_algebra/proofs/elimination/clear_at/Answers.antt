@@ -1,4 +1,4 @@
-use Rattle.std.proofs.Common.{◌≡◌, rules}
+use Rattle.std.proofs.Common.{rules}
 use Rattle.lin_algebra.proofs.BasisLaws.{cleared_by_zero, cleared_by_sum}
 use Rattle.lin_algebra.proofs.elimination.clear_at.Goals as goal
 

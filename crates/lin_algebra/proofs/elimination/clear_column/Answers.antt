@@ -1,4 +1,4 @@
-use Rattle.std.proofs.Common.{◌≡◌, ◌<◌, ◌∙◌, ap, arith, length, slice_index_or}
+use Rattle.std.proofs.Common.{◌≡◌, ◌∙◌, ap, arith, length, slice_index_or}
 use Rattle.alg_core.specs.Fields.{scalars}
 use Rattle.lin_algebra.specs.Vectors.{vector}
 use Rattle.lin_algebra.specs.Bases.{basis_rows, cleared_at}

@@ -1,4 +1,4 @@
-use Rattle.std.proofs.Common.{◌≡◌, ◌∙◌, ◌++◌, ◌∷◌, [], ap, subst, sym, refl, arith, map, Some, All, ℕ, Vec, Global, vec_len}
+use Rattle.std.proofs.Common.{◌∙◌, ◌++◌, ◌∷◌, [], ap, subst, sym, arith, map, Some, ℕ, Vec, Global}
 use Rattle.std.proofs.lemmas.List.{map-append, nil_from_length, append-nil}
 use Rattle.std.proofs.lemmas.List.Elements.{All-pop}
 use Rattle.alg_core.specs.Fields.{scalars, Scalar}

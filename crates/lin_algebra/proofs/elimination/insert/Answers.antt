@@ -1,8 +1,8 @@
-use Rattle.std.proofs.Common.{◌≡◌, ◌∙◌, ◌<◌, ℕ, ap, ap₂, refl, subst, sym, arith, All, slice_index_or, vec_len}
+use Rattle.std.proofs.Common.{◌≡◌, ◌∙◌, ◌<◌, ℕ, ap₂, subst, sym, arith, All, slice_index_or}
 use Rattle.std.specs.Vec.{with_items}
 use Rattle.std.proofs.lemmas.List.{with_items_is}
-use Rattle.alg_core.specs.Fields.{Has, scalars, is_field}
-use Rattle.lin_algebra.specs.Vectors.{vector, IsRow}
+use Rattle.alg_core.specs.Fields.{scalars, is_field}
+use Rattle.lin_algebra.specs.Vectors.{vector}
 use Rattle.lin_algebra.specs.Bases.{basis_rows, reduced_by, IsMonicMultiple, IsPutIn}
 use Rattle.lin_algebra.proofs.RowLaws.{vector_zero}
 use Rattle.lin_algebra.proofs.BasisLaws.{zero_before}

@@ -1,4 +1,4 @@
-use Rattle.std.proofs.Common.{◌≡◌, ◌∙◌, ap, map, sym, subst, All}
+use Rattle.std.proofs.Common.{◌∙◌, ap, map, sym, subst, All}
 use Rattle.alg_core.specs.Fields.{scalars}
 use Rattle.lin_algebra.specs.declared.elimination.BasisRow.{BasisRow}
 use Rattle.lin_algebra.specs.Vectors.{vectors, IsRow}

@@ -1,4 +1,4 @@
-use Rattle.std.proofs.Common.{◌≡◌, ◌∙◌, ap, map, subst}
+use Rattle.std.proofs.Common.{◌∙◌, ap, map, subst}
 use Rattle.alg_core.specs.Fields.{scalars}
 use Rattle.lin_algebra.specs.Vectors.{vectors, vector, IsRow}
 use Rattle.lin_algebra.specs.Spans.{SameSpan}

@@ -6,7 +6,6 @@ use Rattle.lin_algebra.specs.declared.elimination.BasisRow.{BasisRow}
 use Rattle.lin_algebra.specs.Vectors.{vectors, vector, IsRow}
 use Rattle.lin_algebra.specs.Spans.{SameSpan}
 use Rattle.lin_algebra.specs.Echelons.{IsReducedEchelon}
-use Rattle.lin_algebra.specs.Matrices.{vectors_of}
 use Rattle.lin_algebra.specs.Bases.{basis_rows, rows_of_basis}
 use Rattle.lin_algebra.specs.Kernels.{kernel_vector}
 use Rattle.lin_algebra.proofs.CutLaws.{listing}

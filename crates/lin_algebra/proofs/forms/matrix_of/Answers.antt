@@ -1,4 +1,4 @@
-use Rattle.std.proofs.Common.{◌≡◌, ◌∙◌, ap, arith, drop, length, List}
+use Rattle.std.proofs.Common.{◌∙◌, ap, arith, drop, List}
 use Rattle.std.specs.List.{flat_map}
 use Rattle.std.proofs.lemmas.List.{take_all, length-drop}
 use Rattle.lin_algebra.specs.declared.elimination.BasisRow.{BasisRow}

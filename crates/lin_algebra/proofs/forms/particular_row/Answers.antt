@@ -1,4 +1,4 @@
-use Rattle.std.proofs.Common.{◌≡◌, ◌∙◌, ap, subst, sym, arith, length, ◌<◌}
+use Rattle.std.proofs.Common.{◌∙◌, ap, subst, sym, arith, length, ◌<◌}
 use Rattle.std.proofs.lemmas.List.{with_items_is}
 use Rattle.lin_algebra.specs.Vectors.{vector, IsRow}
 use Rattle.lin_algebra.specs.declared.elimination.BasisRow.{BasisRow}

@@ -1,6 +1,6 @@
-use Rattle.std.proofs.Common.{◌≡◌, ◌∙◌, ◌<◌, ◌+◌, ap, map, sym, subst, arith, refl, All, drop, length, slice_index_or, ℕ, true, false}
+use Rattle.std.proofs.Common.{◌≡◌, ◌∙◌, ◌<◌, ◌+◌, ap, map, sym, subst, arith, All, drop, length, slice_index_or, ℕ, true}
 use Rattle.std.proofs.lemmas.Bool.{false≢true}
-use Rattle.alg_core.specs.Fields.{scalars, is_field, Scalar}
+use Rattle.alg_core.specs.Fields.{scalars, is_field}
 use Rattle.lin_algebra.specs.declared.elimination.BasisRow.{BasisRow}
 use Rattle.lin_algebra.specs.Vectors.{IsRow}
 use Rattle.lin_algebra.specs.Matrices.{entries}

@@ -1,4 +1,4 @@
-use Rattle.std.proofs.Common.{◌≡◌, ◌∙◌, ap, slice_set}
+use Rattle.std.proofs.Common.{◌∙◌, ap, slice_set}
 use Rattle.lin_algebra.specs.Vectors.{vector}
 use Rattle.lin_algebra.proofs.RowLaws.{vector_set}
 use Rattle.lin_algebra.proofs.rows.add_at.Goals as goal

@@ -1,7 +1,7 @@
-use Rattle.std.proofs.Common.{◌≡◌, ◌<◌, ◌∙◌, ap, arith, rules, slice_index_or, length}
+use Rattle.std.proofs.Common.{◌∙◌, ap, arith, slice_index_or}
 use Rattle.std.proofs.lemmas.Grind.{common_steps}
 use Rattle.std.proofs.lemmas.List.{get_or_read}
-use Rattle.lin_algebra.proofs.RowLaws.{written_none, written_more, vector_sum}
+use Rattle.lin_algebra.proofs.RowLaws.{written_more, vector_sum}
 use Rattle.lin_algebra.proofs.rows.add_multiple.Goals as goal
 
 pub loop-j-preserved : goal.loop-j-preserved

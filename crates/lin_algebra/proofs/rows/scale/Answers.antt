@@ -1,4 +1,4 @@
-use Rattle.std.proofs.Common.{◌≡◌, ◌<◌, arith, length}
+use Rattle.std.proofs.Common.{arith}
 use Rattle.std.proofs.lemmas.Grind.{common_steps}
 use Rattle.lin_algebra.proofs.RowLaws.{written_more, vector_multiple}
 use Rattle.lin_algebra.proofs.rows.scale.Goals as goal

@@ -1,14 +1,12 @@
-use Rattle.std.proofs.Common.{◌≡◌, ◌≢◌, ◌∙◌, ◌<◌, ◌+◌, ap, sym, subst, arith, refl, All, length, slice_index_or, ℕ}
-use Rattle.std.specs.List.{AllByRecursion as Each}
-use Rattle.alg_core.specs.Fields.{scalars, is_field, Scalar}
+use Rattle.std.proofs.Common.{◌≡◌, ◌≢◌, ◌∙◌, ◌<◌, ap, sym, subst, arith, refl, All, length, slice_index_or}
+use Rattle.alg_core.specs.Fields.{scalars, is_field}
 use Rattle.lin_algebra.specs.declared.elimination.BasisRow.{BasisRow}
 use Rattle.lin_algebra.specs.declared.matrix.Matrix.{Matrix}
 use Rattle.lin_algebra.specs.Vectors.{vectors, vector, dot}
 use Rattle.lin_algebra.specs.Spans.{SameSpan}
-use Rattle.lin_algebra.specs.Matrices.{entries, beside}
+use Rattle.lin_algebra.specs.Matrices.{entries}
 use Rattle.lin_algebra.specs.Bases.{rows_of_basis, basis_rows}
 use Rattle.lin_algebra.specs.Kernels.{particular}
-use Rattle.lin_algebra.proofs.CutLaws.{listing}
 use Rattle.lin_algebra.proofs.BasisLaws.{in_basis_rows, inside_rows}
 use Rattle.lin_algebra.proofs.BesideLaws.{vectors_beside, column_entries}
 use Rattle.lin_algebra.proofs.SolutionLaws.{no_solution, particular_solves, particular_first}

@@ -1,4 +1,4 @@
-use Rattle.std.proofs.Common.{◌≡◌, ◌∙◌, [], arith}
+use Rattle.std.proofs.Common.{◌∙◌, [], arith}
 use Rattle.std.proofs.lemmas.List.{take_all}
 use Rattle.lin_algebra.specs.Matrices.{rows_of}
 use Rattle.lin_algebra.proofs.CutLaws.{listed_more, length_cut}

@@ -1,4 +1,4 @@
-use Rattle.std.proofs.Common.{◌≡◌, ◌∙◌, ◌++◌, [], ap, ap₂, sym, arith}
+use Rattle.std.proofs.Common.{◌∙◌, ◌++◌, [], ap₂, sym, arith}
 use Rattle.std.proofs.lemmas.List.{take_all}
 use Rattle.lin_algebra.specs.Matrices.{rows_of, joined}
 use Rattle.lin_algebra.proofs.CutLaws.{listed_more, length_cut}
