@@ -50,11 +50,14 @@ bounded_test b t = go (ℕ_discrete t.0 0) (dec_le (greatest t.1.0) b)
 
 bounded_mul : (a b c : ℕ) → c ≡ a + b → (s t : Key) → Bounded a s → Bounded b t → Bounded c (keys.◌·◌ s t)
 unfolding keys
-bounded_mul a b c e s t h g = (omega (arith, h.0, g.0), greatest_least _ c (λ i.
-    let m = exponent_mul s.1 t.1 i in
-    let x = greatest_exponent s.1.0 i in
-    let y = greatest_exponent t.1.0 i in
-    omega (arith, h.1, g.1)))
+bounded_mul a b c e s t h g = (
+  omega (arith, h.0, g.0),
+  greatest_least _ c (λ i.
+      let m = exponent_mul s.1 t.1 i in
+      let x = greatest_exponent s.1.0 i in
+      let y = greatest_exponent t.1.0 i in
+      omega (arith, h.1, g.1)),
+)
 
 bounded_one : (b : ℕ) → Bounded b (0, monomials.one)
 bounded_one b = (refl, greatest_least _ b (λ i. let e = exponent_one i in omega arith))

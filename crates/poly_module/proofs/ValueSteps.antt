@@ -97,7 +97,7 @@ module _ {E M : Type 0} (S : SpaceOver E) (exps : M → List ℕ) where
       let there : Supp S.field (Bounded (rest * b)) (from images a (suc i)) = supp_monomial_value S.field b (drop (suc i) (values S exps images)) (λ x j. images_bounded b images (omega arith) z x (in_drop x _ (suc i) j)) (drop (suc i) a) in
       let below : (n + rest) * b ≤ total a * b = let t = get_drop_total a i in mul_mono (n + rest) (total a) b (omega arith) in
       bounded_products cap (n * b) (rest * b) (omega arith) (entries exps p) (entries exps v) (power_keys images i n p w z power_is)
-          (fits_keys S (Bounded (rest * b)) (entries exps v) here.0 (subst (Supp S.field (Bounded (rest * b))) (sym here.1) there))
+      (fits_keys S (Bounded (rest * b)) (entries exps v) here.0 (subst (Supp S.field (Bounded (rest * b))) (sym here.1) there))
 
   -- polynomials for the variables give polynomials
   pub value_zeros : (images : List Terms) (u : Vect S.field) (v : Terms) → ArePolynomials images → Fits S (entries exps v) → vec S.field (entries exps v) ≡ substitute S.field (values S exps images) u → All (λ e. e.0.0 ≡ 0) (entries exps v)

@@ -46,24 +46,80 @@ value_of_terms-requires g t c κs within =
     let exps = g.M.Monomial.exps in
     let half = length c.args.terms.now / 2 in
     let terms = c.args.terms.now in
-    let cut = c.split_at.ensures.front in
-    (omega arith, (search rules, (search rules, (search rules, (search rules, (c.requires.one, (c.requires.polynomials, (c.requires.table,
-        (all_front exps (λ e. Has (g.F.Field.field c.args.space.now.field) e.1) half terms _ cut c.requires.coefficients,
-        (all_front exps (λ e. Covers c.args.table.now e.0.1) half terms _ cut c.requires.covers,
-        (all_front exps (λ e. length e.0.1 ≡ length c.args.images.now) half terms _ cut c.requires.variables,
-        all_front exps (λ e. total e.0.1 * highest (map (entries exps) c.args.images.now) ≤ g.M.Monomial.MAX_EXP) half terms _ cut c.requires.small)))))))))))
+    let cut = c.split_at.ensures.front in (
+      omega arith,
+      (
+        search rules,
+        (
+          search rules,
+          (
+            search rules,
+            (
+              search rules,
+              (
+                c.requires.one,
+                (
+                  c.requires.polynomials,
+                  (
+                    c.requires.table,
+                    (
+                      all_front exps (λ e. Has (g.F.Field.field c.args.space.now.field) e.1) half terms _ cut c.requires.coefficients,
+                      (
+                        all_front exps (λ e. Covers c.args.table.now e.0.1) half terms _ cut c.requires.covers,
+                        (
+                          all_front exps (λ e. length e.0.1 ≡ length c.args.images.now) half terms _ cut c.requires.variables,
+                          all_front exps (λ e. total e.0.1 * highest (map (entries exps) c.args.images.now) ≤ g.M.Monomial.MAX_EXP) half terms _ cut c.requires.small,
+                        ),
+                      ),
+                    ),
+                  ),
+                ),
+              ),
+            ),
+          ),
+        ),
+      ),
+    )
 
 pub value_of_terms-requires-2 : goal.value_of_terms-requires-2
 value_of_terms-requires-2 g t c κs within =
     let exps = g.M.Monomial.exps in
     let half = length c.args.terms.now / 2 in
     let terms = c.args.terms.now in
-    let cut = c.split_at.ensures.back in
-    (omega arith, (search rules, (search rules, (search rules, (search rules, (c.requires.one, (c.requires.polynomials, (c.requires.table,
-        (all_back exps (λ e. Has (g.F.Field.field c.args.space.now.field) e.1) half terms _ cut c.requires.coefficients,
-        (all_back exps (λ e. Covers c.args.table.now e.0.1) half terms _ cut c.requires.covers,
-        (all_back exps (λ e. length e.0.1 ≡ length c.args.images.now) half terms _ cut c.requires.variables,
-        all_back exps (λ e. total e.0.1 * highest (map (entries exps) c.args.images.now) ≤ g.M.Monomial.MAX_EXP) half terms _ cut c.requires.small)))))))))))
+    let cut = c.split_at.ensures.back in (
+      omega arith,
+      (
+        search rules,
+        (
+          search rules,
+          (
+            search rules,
+            (
+              search rules,
+              (
+                c.requires.one,
+                (
+                  c.requires.polynomials,
+                  (
+                    c.requires.table,
+                    (
+                      all_back exps (λ e. Has (g.F.Field.field c.args.space.now.field) e.1) half terms _ cut c.requires.coefficients,
+                      (
+                        all_back exps (λ e. Covers c.args.table.now e.0.1) half terms _ cut c.requires.covers,
+                        (
+                          all_back exps (λ e. length e.0.1 ≡ length c.args.images.now) half terms _ cut c.requires.variables,
+                          all_back exps (λ e. total e.0.1 * highest (map (entries exps) c.args.images.now) ≤ g.M.Monomial.MAX_EXP) half terms _ cut c.requires.small,
+                        ),
+                      ),
+                    ),
+                  ),
+                ),
+              ),
+            ),
+          ),
+        ),
+      ),
+    )
 
 pub returns-clause-value : goal.returns-clause-value
 returns-clause-value g t c =

@@ -10,7 +10,7 @@ pub loop-i-init : goal.loop-i-init
 loop-i-init g c = table_start (over g.F.Field.field g.O.TermOrder.order c.args.space.now) g.M.Monomial.exps c.args.images.now (entries g.M.Monomial.exps c.args.f.now) _ c.new-table.ensures.items
 
 pub greatest_exponent-last-requires : goal.greatest_exponent-last-requires
-greatest_exponent-last-requires g c = record { within = λ k d w. let e = c.requires.variables k d w in omega (arith, c.loop-i-test.true); }
+greatest_exponent-last-requires g c = record { within = λ k d w. let e = c.requires.variables k d w in omega (arith, c.loop-i-test.true) }
 
 pub powers_of-requires-clause-polynomial : goal.powers_of-requires-clause-polynomial
 powers_of-requires-clause-polynomial g c = all_read (λ p. All (λ e. e.0.0 ≡ 0) (entries g.M.Monomial.exps p)) c.args.images.now c.loop-i.i c.index-images-i.result c.loop-i-test.true c.index-images-i.is c.requires.polynomials
