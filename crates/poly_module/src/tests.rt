@@ -351,23 +351,11 @@ fn adds_and_multiplies_by_terms(rt: HostRuntime) -> Result<(), Fail> {
 fn multiplies_polynomials(rt: HostRuntime) -> Result<(), Fail> {
     let alloc = rt.alloc();
     let space = space_by_dp(alloc, &[1, 1, 1], &[0, 1])?;
-    let table: [(&[Entry], &[Entry], &[Entry]); 6] = [
+    let table: [(&[Entry], &[Entry], &[Entry]); 5] = [
         (
             &[(1, 0, X), (1, 0, Y)],
             &[(1, 0, X), (2, 0, Y)],
             &[(1, 0, XX), (2, 0, YY)],
-        ),
-        (
-            &[(1, 0, X), (1, 0, Y), (1, 0, Z)],
-            &[(1, 0, X), (1, 0, Y), (1, 0, Z)],
-            &[
-                (1, 0, XX),
-                (2, 0, XY),
-                (1, 0, YY),
-                (2, 0, XZ),
-                (2, 0, YZ),
-                (1, 0, ZZ),
-            ],
         ),
         (
             &[(1, 0, X), (1, 0, Y), (1, 0, Z)],
