@@ -10,6 +10,7 @@ pub mod Leads
 pub mod GreatestValues
 pub mod CheckedEntries
 pub mod SmallFactors
+pub mod SmallSubstitutions
 pub mod Factors
 pub mod ModuleElements
 pub mod KeyGrowth

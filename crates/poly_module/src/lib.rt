@@ -11,6 +11,8 @@ mod product;
 mod signs;
 mod substitution;
 #[cfg(test)]
+mod substitution_tests;
+#[cfg(test)]
 mod tests;
 mod vector;
 mod whole;

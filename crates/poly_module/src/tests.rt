@@ -13,19 +13,19 @@ use std::alloc::Global;
 use std::test::Fail;
 
 /// A coefficient, a position and the exponents of x, y and z.
-type Entry = (u16, u64, [u32; 3]);
+pub(crate) type Entry = (u16, u64, [u32; 3]);
 
-const ONE: [u32; 3] = [0, 0, 0];
+pub(crate) const ONE: [u32; 3] = [0, 0, 0];
 
-const X: [u32; 3] = [1, 0, 0];
+pub(crate) const X: [u32; 3] = [1, 0, 0];
 
-const Y: [u32; 3] = [0, 1, 0];
+pub(crate) const Y: [u32; 3] = [0, 1, 0];
 
-const Z: [u32; 3] = [0, 0, 1];
+pub(crate) const Z: [u32; 3] = [0, 0, 1];
 
-const XX: [u32; 3] = [2, 0, 0];
+pub(crate) const XX: [u32; 3] = [2, 0, 0];
 
-const XY: [u32; 3] = [1, 1, 0];
+pub(crate) const XY: [u32; 3] = [1, 1, 0];
 
 const YY: [u32; 3] = [0, 2, 0];
 
@@ -55,7 +55,7 @@ fn space_by<O: TermOrder>(
 }
 
 /// The space over GF(3) with the order `Dp` by weights 1, and this grading.
-fn space_by_dp(
+pub(crate) fn space_by_dp(
     alloc: Global,
     weights: &[u32],
     shifts: &[u32],
@@ -90,7 +90,7 @@ fn term<F: Field<Elem = u16>, O: TermOrder>(
 }
 
 /// The sum of the terms.
-fn vector<F: Field<Elem = u16>, O: TermOrder>(
+pub(crate) fn vector<F: Field<Elem = u16>, O: TermOrder>(
     alloc: Global,
     space: &Space<F, O>,
     listed: &[Entry],
@@ -114,7 +114,7 @@ fn exponents(m: &Mono) -> Result<[u32; 3], Fail> {
 }
 
 /// The terms of the vector.
-fn listed(alloc: Global, v: &Vector<u16, Mono>) -> Result<Vec<Entry>, Fail> {
+pub(crate) fn listed(alloc: Global, v: &Vector<u16, Mono>) -> Result<Vec<Entry>, Fail> {
     let mut listed = Vec::new(alloc);
     for t in v.terms() {
         listed.push((t.coef, t.at.pos, exponents(&t.at.mono)?))?;
@@ -133,7 +133,7 @@ fn is_small_monomial(m: &Mono) -> bool
     true
 }
 
-fn is_small(v: &Vector<u16, Mono>) -> bool
+pub(crate) fn is_small(v: &Vector<u16, Mono>) -> bool
     ensures is { IsTrue result → All (λ e. Within 1000 e.0.1) (entries (λ m. m) v.now) }
 {
     let terms = v.terms();
@@ -146,7 +146,7 @@ fn is_small(v: &Vector<u16, Mono>) -> bool
     true
 }
 
-fn is_polynomial(v: &Vector<u16, Mono>) -> bool
+pub(crate) fn is_polynomial(v: &Vector<u16, Mono>) -> bool
     ensures is { IsTrue result → All (λ e. e.0.0 ≡ 0) (entries (λ m. m) v.now) }
 {
     let terms = v.terms();
