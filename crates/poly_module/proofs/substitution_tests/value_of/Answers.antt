@@ -15,8 +15,8 @@ substitute-requires-clause-coefficients g c =
 pub substitute-requires-clause-variables : goal.substitute-requires-clause-variables
 substitute-requires-clause-variables g c =
     let S = over g.F.Field.field g.O.TermOrder.order c.args.space.now in
-    let three : length c.as_slice.result.now ≡ length c.in_ok-images.images.items = ap length c.as_slice.ensures.value in
-    λ k d h. let wide = (fits_terms S (λ (m : List ℕ). m) c.in_ok-f.f c.in_ok-f.ensures.fits k d h).place.wide in omega (arith, wide, three)
+    let count : length c.as_slice.result.now ≡ length c.in_ok-images.images.items = ap length c.as_slice.ensures.value in
+    λ k d h. let wide = (fits_terms S (λ (m : List ℕ). m) c.in_ok-f.f c.in_ok-f.ensures.fits k d h).place.wide in omega (arith, wide, count)
 
 pub substitute-requires-clause-polynomials : goal.substitute-requires-clause-polynomials
 substitute-requires-clause-polynomials g c =
