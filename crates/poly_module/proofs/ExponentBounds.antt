@@ -1,24 +1,22 @@
 -- Vectors with position 0 alone and bounded exponents: their products, powers and values of monomials.
-use Rattle.std.proofs.Common.{◌≡◌, ◌<◌, ◌≤◌, ◌+◌, ◌*◌, ℕ, zero, suc, max, List, [], ◌∷◌, map, length, get_or, refl, sym, ap, subst, ◌∙◌, arith, inl, inr}
+use Rattle.std.proofs.Common.{◌≡◌, ◌≤◌, ◌+◌, ◌*◌, ℕ, zero, suc, List, [], ◌∷◌, get_or, refl, sym, subst, ◌∙◌, arith, inl, inr}
 use Rattle.std.specs.Prelude.{All}
 use native.Mathlib.Decide.{ℕ_discrete, dec_le}
 use Rattle.alg_core.specs.ExponentLists.{product as list_product, Within}
-use Rattle.alg_core.specs.Fields.{FieldOn, Scalar, scalars, is_field, scalar}
-use Rattle.alg_core.specs.FreeModules.{single}
-use Rattle.alg_core.specs.CanonicalLists.{terms}
+use Rattle.alg_core.specs.Fields.{FieldOn, Scalar, scalar}
 use Rattle.alg_core.specs.Monomials.{monomials, mono, exponent, exponent_mul, exponent_mono, exponent_one}
-use Rattle.alg_core.specs.Keys.{Key, key, key_same, keys}
+use Rattle.alg_core.specs.Keys.{Key, key, keys}
 use Rattle.alg_core.specs.Lists.{In}
-use Rattle.alg_core.specs.Vectors.{Entry, Vect, formal_sum, vectors, vec, scale}
+use Rattle.alg_core.specs.Vectors.{Entry, Vect, formal_sum, vec, scale}
 use Rattle.alg_core.specs.Spaces.{SpaceOver, Fits}
 use Rattle.alg_core.specs.SpaceOrder.{key_order}
 use Rattle.alg_core.proofs.FittingLists.{terms_vec}
 use Rattle.alg_core.proofs.VectorLaws.{vec_cons, vec_nothing, vec_single}
-use Rattle.poly_module.specs.Polynomials.{single_vector, product, vector_ring}
+use Rattle.poly_module.specs.Polynomials.{single_vector, vector_ring}
 use Rattle.poly_module.specs.Products.{one_vector_single, ring_product, ring_one}
 use Rattle.poly_module.specs.Substitutions.{power, monomial_value}
 use Rattle.poly_module.specs.Parts.{Supp, supp_zero, supp_plus, supp_scale, supp_single, supp_weaken, supp_product}
-use Rattle.poly_module.specs.GreatestExponents.{total, greatest, peak, highest}
+use Rattle.poly_module.specs.GreatestExponents.{total, greatest, peak}
 use Rattle.poly_module.proofs.ModuleElements.{terms_supp}
 
 pub greatest_exponent : (l : List ℕ) (i : ℕ) → exponent l i ≤ greatest l

@@ -1,12 +1,11 @@
 -- Sums of the values of terms, by halves; and the constant 1.
-use Rattle.std.proofs.Common.{◌≡◌, ◌<◌, ◌≤◌, ℕ, zero, suc, List, [], ◌∷◌, ◌++◌, length, get_or, take, drop, replicate, refl, sym, ap, ap₂, ◌∙◌, arith}
-use Rattle.std.specs.Prelude.{All}
+use Rattle.std.proofs.Common.{◌≡◌, ℕ, zero, suc, List, [], ◌∷◌, ◌++◌, length, get_or, take, drop, replicate, refl, sym, ap, ap₂, ◌∙◌, arith}
 use Rattle.std.proofs.lemmas.List.{map-append}
 use Rattle.alg_core.specs.Monomials.{Mon, monomials, mono, exponent, exponent_mono, exponent_one, mon_ext}
-use Rattle.alg_core.specs.Keys.{Key, key}
-use Rattle.alg_core.specs.Vectors.{Entry, Vect, vec, plus, scale}
+use Rattle.alg_core.specs.Keys.{key}
+use Rattle.alg_core.specs.Vectors.{Vect, vec, plus, scale}
 use Rattle.alg_core.specs.declared.term.Term.{Term}
-use Rattle.alg_core.specs.Spaces.{SpaceOver, entry, entries, Fits}
+use Rattle.alg_core.specs.Spaces.{SpaceOver, entry, entries}
 use Rattle.alg_core.proofs.VectorLaws.{vec_append, vec_nothing}
 use Rattle.poly_module.specs.Polynomials.{single_vector, one_vector, vector_ring}
 use Rattle.poly_module.specs.Products.{one_vector_single}

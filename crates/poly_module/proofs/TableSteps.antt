@@ -1,19 +1,15 @@
 -- Steps of the loop that makes the table of powers, and what the table holds.
-use Rattle.std.proofs.Common.{◌≡◌, ◌<◌, ◌≤◌, ◌+◌, ◌*◌, ℕ, zero, suc, max, List, [], ◌∷◌, ◌++◌, map, length, length-append, get_or, drop, refl, sym, ap, ap₂, subst, ◌∙◌, arith, inl, inr}
+use Rattle.std.proofs.Common.{◌≡◌, ◌<◌, ◌≤◌, ◌+◌, ◌*◌, ℕ, zero, suc, List, [], ◌∷◌, ◌++◌, map, length, length-append, get_or, drop, refl, sym, ap, subst, ◌∙◌, arith, inr}
 use Rattle.std.specs.Prelude.{All}
 use Rattle.alg_core.specs.Lists.{In}
-use Rattle.alg_core.specs.ExponentLists.{product as list_product, Within}
-use Rattle.alg_core.specs.Keys.{key}
-use Rattle.alg_core.specs.Vectors.{Entry, Vect, vec}
+use Rattle.alg_core.specs.Vectors.{Entry, vec}
 use Rattle.alg_core.specs.declared.term.Term.{Term}
-use Rattle.alg_core.specs.Spaces.{SpaceOver, entry, entries, Fits}
-use Rattle.poly_module.specs.Polynomials.{product, one_vector, vector_ring}
-use Rattle.poly_module.specs.Products.{ring_product, ring_one, one_product}
-use Rattle.poly_module.specs.Substitutions.{power, monomial_value}
-use Rattle.poly_module.specs.Parts.{Supp}
-use Rattle.poly_module.specs.GreatestExponents.{total, greatest, peak, highest}
-use Rattle.poly_module.specs.PowerTables.{AllAt, Covers, IsOf, IsPowers, IsTable, value_of, values}
-use Rattle.poly_module.proofs.ExponentBounds.{Bounded, supp_power, supp_monomial_value, vec_supp, fits_keys, polynomial_bounded, bounded_products, mul_mono}
+use Rattle.alg_core.specs.Spaces.{SpaceOver, entries}
+use Rattle.poly_module.specs.Polynomials.{vector_ring}
+use Rattle.poly_module.specs.Substitutions.{power}
+use Rattle.poly_module.specs.GreatestExponents.{total, peak, highest}
+use Rattle.poly_module.specs.PowerTables.{AllAt, Covers, IsOf, IsPowers, IsTable, value_of}
+use Rattle.poly_module.proofs.ExponentBounds.{mul_mono}
 use Rattle.poly_module.proofs.PowerSteps.{all_at_push, all_at_none, all_at_read}
 
 -- an exponent is at most the sum of all

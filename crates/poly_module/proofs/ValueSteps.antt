@@ -1,19 +1,15 @@
 -- The value of a monomial, from its last variable to the first; and sums of values.
-use Rattle.std.proofs.Common.{◌≡◌, ◌<◌, ◌≤◌, ◌+◌, ◌*◌, ℕ, zero, suc, List, [], ◌∷◌, ◌++◌, map, length, get_or, take, drop, refl, sym, ap, ap₂, subst, ◌∙◌, arith, inl, inr}
+use Rattle.std.proofs.Common.{◌≡◌, ◌<◌, ◌≤◌, ◌+◌, ◌*◌, ℕ, zero, suc, List, [], ◌∷◌, map, length, get_or, drop, refl, sym, ap, ap₂, subst, ◌∙◌, arith, inl, inr}
 use Rattle.std.specs.Prelude.{All}
-use Rattle.std.proofs.lemmas.List.{map-append}
-use native.Mathlib.Decide.{ℕ_discrete}
 use Rattle.alg_core.specs.Lists.{In}
 use Rattle.alg_core.specs.ExponentLists.{product as list_product, Within}
-use Rattle.alg_core.specs.Monomials.{mono}
-use Rattle.alg_core.specs.Keys.{Key, key}
-use Rattle.alg_core.specs.Vectors.{Entry, Vect, vectors, vec, plus, scale}
+use Rattle.alg_core.specs.Keys.{key}
+use Rattle.alg_core.specs.Vectors.{Vect, vec}
 use Rattle.alg_core.specs.declared.term.Term.{Term}
-use Rattle.alg_core.specs.Spaces.{SpaceOver, entry, entries, Fits}
-use Rattle.alg_core.proofs.VectorLaws.{vec_append, vec_nothing, vec_single}
-use Rattle.poly_module.specs.Polynomials.{product, single_vector, one_vector, vector_ring}
+use Rattle.alg_core.specs.Spaces.{SpaceOver, entries, Fits}
+use Rattle.poly_module.specs.Polynomials.{product, one_vector, vector_ring}
 use Rattle.poly_module.specs.Products.{ring_product, ring_one, one_product}
-use Rattle.poly_module.specs.Substitutions.{power, monomial_value, monomial_value_nothing, monomial_value_mono, substitute, substitute_plus, substitute_scale, substitute_single, substitute_zero}
+use Rattle.poly_module.specs.Substitutions.{power, monomial_value, monomial_value_nothing, substitute}
 use Rattle.poly_module.specs.Variables.{substitute_polynomial}
 use Rattle.poly_module.specs.Parts.{Supp, IsPolynomial, supp_weaken}
 use Rattle.poly_module.specs.GreatestExponents.{total, highest}

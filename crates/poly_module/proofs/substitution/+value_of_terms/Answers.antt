@@ -1,7 +1,7 @@
-use Rattle.std.proofs.Common.{rules, ◌≡◌, ◌<◌, ◌≤◌, ◌/◌, ◌*◌, length, sym, ap, ◌∙◌, arith, []}
-use Rattle.std.specs.Prelude.{All, map}
+use Rattle.std.proofs.Common.{rules, ◌≡◌, ◌≤◌, ◌/◌, ◌*◌, length, ◌∙◌, arith}
+use Rattle.std.specs.Prelude.{map}
 use Rattle.alg_core.specs.Fields.{Has}
-use Rattle.alg_core.specs.Spaces.{over, entry, entries}
+use Rattle.alg_core.specs.Spaces.{over, entries}
 use Rattle.poly_module.specs.GreatestExponents.{total, highest}
 use Rattle.poly_module.specs.PowerTables.{Covers, values}
 use Rattle.poly_module.proofs.EntryLists.{given_at}

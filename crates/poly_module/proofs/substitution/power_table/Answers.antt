@@ -1,4 +1,4 @@
-use Rattle.std.proofs.Common.{◌≡◌, ◌<◌, ◌≤◌, ◌*◌, length, get_or, arith}
+use Rattle.std.proofs.Common.{◌≡◌, arith}
 use Rattle.std.specs.Prelude.{All}
 use Rattle.alg_core.specs.Spaces.{over, entries, Fits}
 use Rattle.poly_module.specs.GreatestExponents.{peak}

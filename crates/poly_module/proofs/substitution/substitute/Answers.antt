@@ -1,4 +1,4 @@
-use Rattle.std.proofs.Common.{◌≡◌, ◌≤◌, ◌*◌, ℕ, List, length, sym, subst, ◌∙◌, ap}
+use Rattle.std.proofs.Common.{◌≡◌, ◌≤◌, ◌*◌, ℕ, List, length, sym, subst}
 use Rattle.std.specs.Prelude.{All, map}
 use Rattle.alg_core.specs.Fields.{Has}
 use Rattle.alg_core.specs.Spaces.{over, entries}

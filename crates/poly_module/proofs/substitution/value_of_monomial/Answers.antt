@@ -1,5 +1,5 @@
 use Rattle.std.proofs.Common.{◌≡◌, ◌<◌, ◌-◌, suc, length, get_or, refl, subst, arith}
-use Rattle.alg_core.specs.Spaces.{over, entries}
+use Rattle.alg_core.specs.Spaces.{over}
 use Rattle.poly_module.proofs.ValueSteps.{start, skip, step, power_zeros, step_small}
 use Rattle.poly_module.proofs.TableSteps.{table_power}
 use Rattle.poly_module.proofs.substitution.value_of_monomial.Goals as goal
