@@ -1,11 +1,10 @@
 //! The echelon basis of the invariants of one degree, by linear algebra.
 
-ghost use Rattle.std.specs.Prelude.{◌≡◌, ◌*◌, ◌<◌, ◌≤◌, All, IfOk, length};
+ghost use Rattle.std.specs.Prelude.{◌≡◌, ◌+◌, ◌*◌, ◌<◌, ◌≤◌, All, IfOk, length, slice_range};
 ghost use Rattle.alg_core.specs.Binomials.{monomials_of_degree};
 ghost use Rattle.alg_core.specs.Fields.{Has};
 ghost use Rattle.invring_app.specs.Outputs.{IsLines};
 
-mod elimination;
 mod images;
 mod monomials;
 #[cfg(test)]
@@ -13,8 +12,8 @@ mod tests;
 mod texts;
 
 use alg_core::{Field, Memory};
-use elimination::eliminated;
 use images::{equations, substituted};
+use lin_algebra::{Matrix, kernel};
 use std::alloc::Global;
 use texts::push_line;
 
@@ -42,15 +41,24 @@ pub(crate) fn basis_text<F: Field<Elem = u16>>(
     ensures lines { IfOk result (λ text. IsLines text.items) }
 {
     let images = substituted(alloc, field, matrix, names.len(), degree)?;
-    let rows = equations(alloc, field, &images.rows)?;
-    let count = rows.len();
-    let echelon = eliminated(alloc, field, rows, count)?;
+    let equations = equations(alloc, field, &images.rows)?;
+    let basis = kernel(alloc, field, &equations)?;
     let monomials = images.monomials.all.as_slice();
     let mut text = Vec::new(alloc);
-    for place in 0..count {
-        if !echelon.columns.contains(&place) {
-            push_line(alloc, field, names, monomials, &echelon, place, &mut text)?;
-        }
+    for row in 0..basis.rows as usize {
+        let coefficients = matrix_row(&basis, row);
+        push_line(alloc, field, names, monomials, coefficients, &mut text)?;
     }
     Ok(text)
+}
+
+/// A row of a matrix.
+fn matrix_row(matrix: &Matrix<u16>, row: usize) -> &[u16]
+    requires whole { length matrix.now.cells.items ≡ matrix.now.rows * matrix.now.cols }
+    requires row { row < matrix.now.rows }
+    ensures row { result.now ≡ slice_range matrix.now.cells.items (row * matrix.now.cols) (row * matrix.now.cols + matrix.now.cols) }
+    ensures length { length result.now ≡ matrix.now.cols }
+{
+    let cols = matrix.cols as usize;
+    &matrix.cells[row * cols..row * cols + cols]
 }

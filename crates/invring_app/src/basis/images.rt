@@ -1,10 +1,12 @@
 ghost use Rattle.std.specs.Prelude.{◌≡◌, ◌+◌, ◌*◌, ◌^◌, ◌<◌, ◌≤◌, All, IfOk, length, slice_range, vec_len};
 ghost use Rattle.alg_core.specs.Fields.{Has};
+ghost use Rattle.lin_algebra.specs.Matrices.{IsMatrix};
 ghost use Rattle.invring_app.specs.Rows.{AreLong, AreValues};
 ghost use Rattle.invring_app.specs.Monomials.{ArePlaces};
 
 use super::monomials::Monomials;
 use alg_core::{Field, Memory};
+use lin_algebra::Matrix;
 use std::alloc::Global;
 
 /// The monomials of one degree, and the image of each under the substitution of a matrix: its
@@ -139,18 +141,23 @@ pub(super) fn equations<F: Field<Elem = u16>>(
     alloc: Global,
     field: &F,
     images: &[Vec<u16>],
-) -> Result<Vec<Vec<u16>>, Memory>
+) -> Result<Matrix<u16>, Memory>
     requires lengths { AreLong (length images.now) images.now }
     requires has { AreValues (F.field field.now) images.now }
-    ensures count { IfOk result (λ rs. vec_len rs ≡ length images.now) }
-    ensures lengths { IfOk result (λ rs. AreLong (length images.now) rs.items) }
-    ensures has { IfOk result (λ rs. AreValues (F.field field.now) rs.items) }
+    ensures matrix { IfOk result (IsMatrix (F.field field.now)) }
+    ensures columns { IfOk result (λ m. m.cols ≡ length images.now) }
 {
-    let mut rows = Vec::new(alloc);
+    let mut cells = Vec::new(alloc);
     for i in 0..images.len() {
-        rows.push(equation(alloc, field, images, i)?)?;
+        let row = equation(alloc, field, images, i)?;
+        cells.extend_from_slice(&row)?;
     }
-    Ok(rows)
+    let count = images.len() as u64;
+    Ok(Matrix {
+        rows: count,
+        cols: count,
+        cells,
+    })
 }
 
 /// The equation at one monomial.

@@ -1,55 +1,53 @@
-ghost use Rattle.std.specs.Prelude.{◌≡◌, ◌<◌, All, OnOk, length, vec_len};
+ghost use Rattle.std.specs.Prelude.{◌≡◌, All, OnOk, length};
 ghost use Rattle.alg_core.specs.Fields.{Has};
-ghost use Rattle.invring_app.specs.Rows.{AreLong, AreValues};
 ghost use Rattle.invring_app.specs.Outputs.{IsLines};
 
-use super::elimination::Echelon;
 use super::monomials::Monomial;
 use alg_core::{Field, Memory};
 use std::alloc::Global;
 
-/// Adds the line of the invariant whose lead stands at the place, a column that the echelon form
-/// has not: the lead, and right of it the terms that each row asks for.
+/// Adds the line of the polynomial with these coefficients at the monomials.
 pub(super) fn push_line<F: Field<Elem = u16>>(
     alloc: Global,
     field: &F,
     names: &[u8],
     monomials: &[Monomial],
-    echelon: &Echelon,
-    lead: usize,
+    coefficients: &[u16],
     text: &mut Vec<u8>,
 ) -> Result<(), Memory>
-    requires lead { lead < length monomials.now }
-    requires pairs { vec_len echelon.now.columns ≡ vec_len echelon.now.rows }
-    requires columns { All (λ c. c < length monomials.now) echelon.now.columns.items }
-    requires lengths { AreLong (length monomials.now) echelon.now.rows.items }
-    requires has { AreValues (F.field field.now) echelon.now.rows.items }
+    requires length { length coefficients.now ≡ length monomials.now }
+    requires has { All (Has (F.field field.now)) coefficients.now }
     ensures lines { OnOk result (IsLines text.new.items) }
 {
-    push_term(alloc, names, 1, &monomials[lead], text)?;
-    for i in (0..echelon.columns.len()).rev() {
-        let coefficient = field.neg(echelon.rows[i][lead]);
-        if coefficient != field.zero() {
-            let absolute = push_sign(field, coefficient, text)?;
-            push_term(alloc, names, absolute, &monomials[echelon.columns[i]], text)?;
+    let mut is_first = true;
+    for (place, coefficient) in coefficients.iter().enumerate() {
+        if *coefficient != field.zero() {
+            let absolute = push_sign(field, *coefficient, is_first, text)?;
+            push_term(alloc, names, absolute, &monomials[place], text)?;
+            is_first = false;
         }
     }
     text.push(b'\n')?;
     Ok(())
 }
 
-/// Adds the sign of the integer nearest to 0 in the class of the coefficient, and answers its
-/// absolute value.
+/// Adds the sign of the integer nearest to 0 in the class of the coefficient, where it is no plus
+/// before the first term, and answers its absolute value.
 fn push_sign<F: Field<Elem = u16>>(
     field: &F,
     coefficient: u16,
+    is_first: bool,
     text: &mut Vec<u8>,
 ) -> Result<u32, Memory>
     requires has { Has (F.field field.now) coefficient }
 {
     let positive = field.number(coefficient);
     let negative = field.number(field.neg(coefficient));
-    text.push(if negative < positive { b'-' } else { b'+' })?;
+    if negative < positive {
+        text.push(b'-')?;
+    } else if !is_first {
+        text.push(b'+')?;
+    }
     Ok(positive.min(negative))
 }
 
