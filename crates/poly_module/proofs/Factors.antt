@@ -1,5 +1,5 @@
 -- Products with the sum of some terms at position 0.
-use Rattle.std.proofs.Common.{◌≡◌, ℕ, zero, suc, List, [], ◌∷◌, ◌++◌, length, get_or, take, drop, refl, sym, ap, ap₂, subst, ◌∙◌, arith}
+use Rattle.std.proofs.Common.{◌≡◌, ℕ, zero, suc, List, [], ◌∷◌, ◌++◌, length, get_or, take, drop, sym, ap, ap₂, subst, ◌∙◌, arith, take-append-drop}
 use Rattle.std.specs.Prelude.{All}
 use Rattle.std.proofs.lemmas.List.{map-append}
 use Rattle.alg_core.specs.declared.term.Term.{Term}
@@ -12,11 +12,6 @@ use Rattle.alg_core.specs.Spaces.{SpaceOver, entry, entries, IsTerm, Fits}
 use Rattle.alg_core.proofs.VectorLaws.{vec_append, vec_nothing, vec_single}
 use Rattle.poly_module.specs.Polynomials.{product, single_vector}
 use Rattle.poly_module.specs.Products.{plus_product, zero_product, scale_product, shift_product}
-
-take_drop : {A : Type 0} (n : ℕ) (l : List A) → take n l ++ drop n l ≡ l
-take_drop zero l = refl
-take_drop (suc n) [] = refl
-take_drop (suc n) (x ∷ l) = ap (λ m. x ∷ m) (take_drop n l)
 
 -- what holds of all entries holds of those of a front and of a back
 module _ {E M : Type 0} (exps : M → List ℕ) (P : Entry E → Type 0) where
@@ -79,4 +74,4 @@ module _ {E M : Type 0} (S : SpaceOver E) (exps : M → List ℕ) where
       → vec S.field (entries exps sum) ≡ product S.field (vec S.field (entries exps fs)) (vec S.field (entries exps a))
   factor_halves n a fs front back sum left right p q l r s =
       s ∙ ap₂ (plus S.field) l r ∙ sym (plus_product S.field _ _ _)
-      ∙ ap (λ u. product S.field u (vec S.field (entries exps a))) (sym (vec_append S.field (entries exps front) (entries exps back)) ∙ ap (vec S.field) (sym (map-append (entry exps) front back) ∙ ap (entries exps) (ap₂ ◌++◌ p q ∙ take_drop n fs)))
+      ∙ ap (λ u. product S.field u (vec S.field (entries exps a))) (sym (vec_append S.field (entries exps front) (entries exps back)) ∙ ap (vec S.field) (sym (map-append (entry exps) front back) ∙ ap (entries exps) (ap₂ ◌++◌ p q ∙ take-append-drop n fs)))

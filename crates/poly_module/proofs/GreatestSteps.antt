@@ -2,17 +2,12 @@
 use Rattle.std.proofs.Common.{◌≡◌, ◌<◌, ◌≤◌, ◌+◌, ◌*◌, ℕ, zero, suc, max, List, [], ◌∷◌, ◌++◌, length, get_or, take, sym, subst, ◌∙◌, arith}
 use Rattle.std.specs.Prelude.{All}
 use Rattle.std.proofs.lemmas.List.{take_all}
+use Rattle.std.proofs.lemmas.List.Elements.{All-push}
 use native.Mathlib.Decide.{dec_le}
 use Rattle.alg_core.specs.declared.term.Term.{Term}
 use Rattle.alg_core.specs.Vectors.{Entry}
 use Rattle.alg_core.specs.Spaces.{entry, entries}
 use Rattle.poly_module.proofs.GreatestValues.{take_map}
-
-all_last : {A : Type 0} (P : A → Type 0) (l : List A) (x : A) → All P l → P x → All P (l ++ (x ∷ []))
-all_last P [] x h p zero d w = p
-all_last P [] x h p (suc i) d w = absurd (omega arith)
-all_last P (y ∷ l) x h p zero d w = h 0 d (omega arith)
-all_last P (y ∷ l) x h p (suc i) d w = all_last P l x (λ n e v. h (suc n) e (omega arith)) p i d (omega arith)
 
 last_of : {A : Type 0} (P : A → Type 0) (l : List A) (x : A) → All P (l ++ (x ∷ [])) → P x
 last_of P [] x h = h 0 x (omega arith)
@@ -41,7 +36,7 @@ module _ {E : Type 0} (i : ℕ) where
 
   greatest_more : (es : List (Entry E)) (e : Entry E) (g x : ℕ) → x ≡ get_or e.0.1 i 0 → IsGreatest es g → IsGreatest (es ++ (e ∷ [])) (max g x)
   greatest_more es e g x is h = record {
-    covers = all_last (λ f. get_or f.0.1 i 0 ≤ max g x) es e (λ k d w. let c = h.covers k d w in omega arith) (omega arith);
+    covers = All-push (λ f. get_or f.0.1 i 0 ≤ max g x) es e (λ k d w. let c = h.covers k d w in omega arith) (omega arith);
     least = λ n cap all. max_times g x n cap (h.least n cap (front_of (λ f. get_or f.0.1 i 0 * n ≤ cap) es e all)) (subst (λ y. y * n ≤ cap) (sym is) (last_of (λ f. get_or f.0.1 i 0 * n ≤ cap) es e all));
   }
 

@@ -1,5 +1,5 @@
 -- A sum by its halves.
-use Rattle.std.proofs.Common.{◌≡◌, ◌≢◌, ℕ, zero, suc, List, [], ◌∷◌, ◌++◌, take, drop, refl, sym, ap, ap₂, subst, ◌∙◌, arith}
+use Rattle.std.proofs.Common.{◌≡◌, ◌≢◌, ℕ, zero, suc, List, [], ◌∷◌, take, drop, sym, ap, ap₂, subst, ◌∙◌, arith, take-append-drop}
 use Rattle.std.specs.Prelude.{All}
 use Rattle.std.proofs.lemmas.List.{map-append}
 use Rattle.alg_core.specs.Fields.{Has}
@@ -7,11 +7,6 @@ use Rattle.alg_core.specs.declared.term.Term.{Term}
 use Rattle.alg_core.specs.Spaces.{SpaceOver, entry, entries, IsPlace, Fits}
 use Rattle.alg_core.specs.Vectors.{vec, plus}
 use Rattle.alg_core.proofs.VectorLaws.{vec_append, vec_nothing, vec_zero}
-
-take_drop : {A : Type 0} (n : ℕ) (l : List A) → take n l ++ drop n l ≡ l
-take_drop zero l = refl
-take_drop (suc n) [] = refl
-take_drop (suc n) (x ∷ l) = ap (λ m. x ∷ m) (take_drop n l)
 
 module _ {E M : Type 0} (S : SpaceOver E) (exps : M → List ℕ) where
   abbrev pub Given : List (Term E M) → Type 0
@@ -51,7 +46,7 @@ module _ {E M : Type 0} (S : SpaceOver E) (exps : M → List ℕ) where
       → vec S.field (entries exps sum) ≡ plus S.field (vec S.field (entries exps left)) (vec S.field (entries exps right)) → vec S.field (entries exps sum) ≡ vec S.field (entries exps ts)
   halves n ts front back sum left right p q l r s =
       s ∙ ap₂ (plus S.field) (l ∙ ap (λ z. vec S.field (entries exps z)) p) (r ∙ ap (λ z. vec S.field (entries exps z)) q) ∙ sym (vec_append S.field _ _)
-      ∙ ap (vec S.field) (sym (map-append (entry exps) (take n ts) (drop n ts)) ∙ ap (entries exps) (take_drop n ts))
+      ∙ ap (vec S.field) (sym (map-append (entry exps) (take n ts) (drop n ts)) ∙ ap (entries exps) (take-append-drop n ts))
 
   -- one term
   pub one_fits : (t : Term E M) → Has S.field t.coef × IsPlace S (entry exps t).0 → t.coef ≢ S.field.zero → Fits S (entries exps (t ∷ []))

@@ -1,5 +1,5 @@
 -- Sums of the values of terms, by halves; and the constant 1.
-use Rattle.std.proofs.Common.{◌≡◌, ℕ, zero, suc, List, [], ◌∷◌, ◌++◌, length, get_or, take, drop, replicate, refl, sym, ap, ap₂, ◌∙◌, arith}
+use Rattle.std.proofs.Common.{◌≡◌, ℕ, zero, suc, List, [], ◌∷◌, ◌++◌, length, get_or, take, drop, replicate, refl, sym, ap, ap₂, ◌∙◌, arith, take-append-drop}
 use Rattle.std.proofs.lemmas.List.{map-append}
 use Rattle.alg_core.specs.Monomials.{Mon, monomials, mono, exponent, exponent_mono, exponent_one, mon_ext}
 use Rattle.alg_core.specs.Keys.{key}
@@ -12,11 +12,6 @@ use Rattle.poly_module.specs.Products.{one_vector_single}
 use Rattle.poly_module.specs.Substitutions.{monomial_value, monomial_value_mono, substitute, substitute_plus, substitute_scale, substitute_single, substitute_zero}
 use Rattle.poly_module.proofs.ExponentBounds.{vec_scaled}
 use Rattle.poly_module.proofs.PowerSteps.{scale_one}
-
-take_drop : {A : Type 0} (n : ℕ) (l : List A) → take n l ++ drop n l ≡ l
-take_drop zero l = refl
-take_drop (suc n) [] = refl
-take_drop (suc n) (x ∷ l) = ap (λ m. x ∷ m) (take_drop n l)
 
 key_mono : (p : ℕ × List ℕ) → (key p).1 ≡ mono p.1
 unfolding key
@@ -60,7 +55,7 @@ module _ {E M : Type 0} (S : SpaceOver E) (exps : M → List ℕ) where
       → vec S.field (entries exps sum) ≡ substitute S.field xs (vec S.field (entries exps fs))
   value_halves xs n fs front back sum left right p q l r s =
       s ∙ ap₂ (plus S.field) l r ∙ sym (substitute_plus S.field xs _ _)
-      ∙ ap (substitute S.field xs) (sym (vec_append S.field (entries exps front) (entries exps back)) ∙ ap (vec S.field) (sym (map-append (entry exps) front back) ∙ ap (entries exps) (ap₂ ◌++◌ p q ∙ take_drop n fs)))
+      ∙ ap (substitute S.field xs) (sym (vec_append S.field (entries exps front) (entries exps back)) ∙ ap (vec S.field) (sym (map-append (entry exps) front back) ∙ ap (entries exps) (ap₂ ◌++◌ p q ∙ take-append-drop n fs)))
 
   -- the constant 1
   pub constant_vector : (n : ℕ) (v : Terms) (f : Term E M) → f.coef ≡ S.field.one → f.at.pos ≡ 0 → exps f.at.mono ≡ replicate n 0 → vec S.field (entries exps v) ≡ vec S.field (entries exps (f ∷ [])) → vec S.field (entries exps v) ≡ one_vector S.field
