@@ -1,0 +1,2 @@
+pub mod InvariantSpaces
+pub mod Equations

@@ -1,0 +1,2 @@
+//! The echelon basis of the invariants of one degree.
+#![tactic(auto)]

@@ -1,0 +1,2 @@
+//! The action of matrices on polynomials, and invariance under it.
+#![tactic(auto)]
