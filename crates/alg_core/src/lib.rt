@@ -18,6 +18,7 @@ mod space;
 mod term;
 #[cfg(test)]
 mod tests;
+mod value_kind;
 mod zero;
 
 pub use block_order::BlockOrder;
@@ -38,4 +39,5 @@ pub use order::TermOrder;
 pub use place::Place;
 pub use space::{Grading, Space};
 pub use term::{ModTerm, Term};
+pub use value_kind::ValueKind;
 pub use zero::is_zero;

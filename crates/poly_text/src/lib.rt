@@ -1,13 +1,9 @@
-// A library with one function.
+//! Polynomial texts: one text for each polynomial, read exactly, and each fault the first one.
 #![tactic(auto)]
 
-ghost use Rattle.std.specs.Prelude.{◌≡◌};
-ghost use Rattle.poly_text.specs.Echo.{echo_of};
+mod fault;
+mod names;
+mod syntax;
 
-// The `ensures` clause is the contract: what `echo` returns is `echo_of` of its argument, a definition
-// in `specs/Echo.antt`, which a caller's clause can cite too.
-pub fn echo(x: usize) -> usize
-    ensures { result ≡ echo_of x }
-{
-    x
-}
+pub use fault::TextFault;
+pub use names::Names;
