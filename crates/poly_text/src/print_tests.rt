@@ -14,7 +14,7 @@ use std::test::Fail;
 type Entry<'a> = (u16, u64, &'a [u32]);
 
 /// The space over GF(p) by `Dp`, with weights 1 and shifts 0.
-fn space(
+pub(crate) fn space(
     alloc: Global,
     p: u32,
     variables: usize,
@@ -88,7 +88,7 @@ fn is_polynomial(v: &Vector<u16, Mono>) -> bool
 }
 
 /// Whether there are so many variables, and few marks.
-fn has_places(names: &Names, n: usize) -> bool
+pub(crate) fn has_places(names: &Names, n: usize) -> bool
     ensures is { IsTrue result → n ≡ place_count names.now }
 {
     let primaries = names.primaries.unwrap_or(0);
