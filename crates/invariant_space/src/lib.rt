@@ -1,2 +1,17 @@
 //! The echelon basis of the invariants of one degree.
 #![tactic(auto)]
+
+mod columns;
+mod count;
+mod equations;
+mod fault;
+mod invariants;
+mod levels;
+mod linear;
+mod polynomials;
+mod sorted;
+#[cfg(test)]
+mod tests;
+
+pub use fault::SpaceFault;
+pub use invariants::basis;
