@@ -1,0 +1,2 @@
+pub mod BinomialLaws
+pub mod LevelLaws

@@ -17,7 +17,7 @@ pub(crate) fn matrix_row<E>(m: &Matrix<E>, i: usize) -> &[E]
     ensures count { length result.now ≡ m.now.cols }
 {
     let cols = m.cols as usize;
-    &m.cells[i * cols..(i + 1) * cols]
+    &m.cells[i * cols..i * cols + cols]
 }
 
 /// Variable i as a monomial in so many variables.
