@@ -1,1 +1,2 @@
 pub mod RowPolynomials
+pub mod EchelonRows
