@@ -1,2 +1,3 @@
 pub mod RowPolynomials
 pub mod EchelonRows
+pub mod InvariantEquations
