@@ -1,3 +1,4 @@
 pub mod RowPolynomials
 pub mod EchelonRows
 pub mod InvariantEquations
+pub mod EchelonBasis
