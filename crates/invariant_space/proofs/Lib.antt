@@ -1,2 +1,6 @@
+pub mod RowPolynomials
+pub mod EchelonRows
+pub mod InvariantEquations
+pub mod EchelonBasis
 pub mod BinomialLaws
 pub mod LevelLaws

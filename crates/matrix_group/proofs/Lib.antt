@@ -1,0 +1,4 @@
+pub mod FamilyLaws
+pub mod LinearForms
+pub mod ActionLaws
+pub mod InvariantLaws
