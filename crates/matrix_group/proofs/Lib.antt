@@ -2,3 +2,4 @@ pub mod FamilyLaws
 pub mod LinearForms
 pub mod ActionLaws
 pub mod InvariantLaws
+pub mod ActionSteps

@@ -1,2 +1,8 @@
 //! The action of matrices on polynomials, and invariance under it.
 #![tactic(auto)]
+
+mod action;
+mod invariance;
+
+pub use action::act;
+pub use invariance::is_invariant;
