@@ -1,11 +1,11 @@
 -- Steps of the computation of an image: variables and linear forms as lists of terms, and the list of the images.
-use Rattle.std.proofs.Common.{◌≡◌, ℕ, zero, suc, ◌+◌, ◌*◌, ◌<◌, ◌≤◌, ◌⊎◌, inl, inr, List, [], ◌∷◌, ◌++◌, map, length, get_or, replicate, slice_set, refl, sym, ap, ap₂, subst, ◌∙◌, arith, All}
+use Rattle.std.proofs.Common.{◌≡◌, ℕ, zero, suc, ◌+◌, ◌*◌, ◌<◌, ◌≤◌, List, [], ◌∷◌, ◌++◌, length, get_or, replicate, slice_set, refl, sym, ap, ap₂, subst, ◌∙◌, arith}
 use Rattle.std.proofs.lemmas.List.{map-append, get_or-take, get_or-drop, get_or_default}
 use Rattle.alg_core.specs.Fields.{FieldOn, Has, Scalar, scalars, scalar, scalar_one}
 use Rattle.alg_core.specs.FreeModules.{single}
 use Rattle.alg_core.specs.Monomials.{mono, mono_ext, exponent}
 use Rattle.alg_core.specs.Keys.{key, key_same}
-use Rattle.alg_core.specs.Vectors.{Vect, vectors, vec, plus}
+use Rattle.alg_core.specs.Vectors.{vectors, vec, plus}
 use Rattle.alg_core.specs.declared.term.Term.{Term}
 use Rattle.alg_core.specs.Spaces.{entry, entries}
 use Rattle.alg_core.proofs.VectorLaws.{vec_append, vec_nothing, vec_single}
@@ -13,9 +13,9 @@ use Rattle.poly_module.specs.MonomialVariables.{variable, after_zeros}
 use Rattle.poly_module.specs.Polynomials.{single_vector}
 use Rattle.poly_module.specs.Substitutions.{variable_vector}
 use Rattle.lin_algebra.specs.declared.matrix.Matrix.{Matrix}
-use Rattle.lin_algebra.specs.Matrices.{rows_of, IsMatrix, entries as cells_of}
+use Rattle.lin_algebra.specs.Matrices.{entries as cells_of}
 use Rattle.lin_algebra.proofs.CutLaws.{cut_at}
-use Rattle.matrix_group.specs.Actions.{IsSquare, linear_form, image}
+use Rattle.matrix_group.specs.Actions.{IsSquare, linear_form}
 
 -- the exponents of a variable
 pub mono_set : (n i : ℕ) → i < n → mono (slice_set (replicate n 0) i 1) ≡ variable i

@@ -3,3 +3,5 @@ pub mod LinearForms
 pub mod ActionLaws
 pub mod InvariantLaws
 pub mod ActionSteps
+pub mod ImageLists
+pub mod FixedLaws

@@ -3,6 +3,8 @@
 
 mod action;
 mod invariance;
+mod laws;
 
 pub use action::act;
 pub use invariance::is_invariant;
+pub use laws::{actions, invariants};

@@ -1,4 +1,4 @@
-use Rattle.std.proofs.Common.{◌≡◌, slice_set, ap, ◌∙◌}
+use Rattle.std.proofs.Common.{slice_set, ap, ◌∙◌}
 use Rattle.alg_core.specs.Monomials.{mono}
 use Rattle.matrix_group.proofs.ActionSteps.{mono_set}
 use Rattle.matrix_group.proofs.action.exponents_of.Goals as goal

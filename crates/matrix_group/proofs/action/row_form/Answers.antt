@@ -1,4 +1,4 @@
-use Rattle.std.proofs.Common.{◌≡◌, ◌∙◌, ℕ, List, refl, subst, sym, arith}
+use Rattle.std.proofs.Common.{ℕ, List, refl, subst, sym, arith}
 use Rattle.std.specs.Prelude.{All}
 use Rattle.alg_core.specs.Fields.{Has}
 use Rattle.alg_core.specs.Spaces.{over, entry, entries, IsPlace}

@@ -1,4 +1,4 @@
-use Rattle.std.proofs.Common.{◌≡◌, ◌++◌, ◌∷◌, [], ℕ, List, ◌∙◌, ap}
+use Rattle.std.proofs.Common.{◌++◌, ◌∷◌, [], ℕ, List, ◌∙◌, ap}
 use Rattle.matrix_group.proofs.ActionSteps.{one_variable}
 use Rattle.matrix_group.proofs.action.single_variable.Goals as goal
 
