@@ -55,7 +55,7 @@ module _ {E : Type 0} (k : FieldOn E) where
   variable_form i w h = supp_single k (OfDegree k (replicate w 1) 1) (0, variable i) (refl, weight_variable i w h)
 
   -- a property of the keys of the first n variables is one of the keys of linear forms in them
-  linear_form_supp : (P : Key → Type 0) (n : ℕ) (c : ℕ → Scalar k) → ((i : ℕ) → i < n → Supp k P (variable_vector k i)) → Supp k P (linear_form k n c)
+  pub linear_form_supp : (P : Key → Type 0) (n : ℕ) (c : ℕ → Scalar k) → ((i : ℕ) → i < n → Supp k P (variable_vector k i)) → Supp k P (linear_form k n c)
   linear_form_supp P zero c h = supp_zero k P
   linear_form_supp P (suc n) c h = supp_plus k P _ _ (linear_form_supp P n c (λ i l. h i (omega arith))) (supp_act k P (c n) (variable_vector k n) (h n (omega arith)))
 
