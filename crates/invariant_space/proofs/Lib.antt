@@ -4,3 +4,5 @@ pub mod InvariantEquations
 pub mod EchelonBasis
 pub mod BinomialLaws
 pub mod LevelLaws
+pub mod MonomialDegrees
+pub mod Images

@@ -6,9 +6,9 @@ ghost use Rattle.matrix_group.specs.Actions.{IsSquare};
 ghost use Rattle.poly_module.specs.Polynomials.{one_vector};
 ghost use Rattle.invariant_space.specs.Columns.{IsColumn, IsImage};
 
-use crate::linear::{linear_form, variable};
 use alg_core::{Field, Memory, ModTerm, Mono, Monomial, Space, Term, TermOrder};
 use lin_algebra::Matrix;
+use matrix_group::row_form;
 use poly_module::{Poly, make, mul};
 use std::alloc::Global;
 
@@ -17,6 +17,17 @@ use std::alloc::Global;
 pub(crate) struct Column<E> {
     pub(crate) at: ModTerm<Mono>,
     pub(crate) images: Vec<Poly<E>>,
+}
+
+/// Variable i as a monomial in so many variables.
+fn variable(alloc: Global, variables: usize, i: usize) -> Result<Mono, Memory>
+    requires variable { i < variables }
+    ensures is { IfOk result (λ m. m ≡ slice_set (replicate variables 0) i 1) }
+{
+    let mut exponents = vec![in alloc; 0; variables]?;
+    exponents[i] = 1;
+    let mono = Mono::from_exps(alloc, exponents.as_slice())?;
+    Ok(mono)
 }
 
 /// The polynomial 1, whose monomial has these exponents.
@@ -77,7 +88,7 @@ pub(crate) fn times<F: Field, O: TermOrder>(
 {
     let mut images = Vec::new(alloc);
     for (j, generator) in gens.iter().enumerate() {
-        let form = linear_form(alloc, space, generator, i)?;
+        let form = row_form(alloc, space, generator, i)?;
         images.push(mul(alloc, space, &form, &column.images[j])?)?;
     }
     let variable = variable(alloc, space.grading.weights.len(), i)?;

@@ -7,7 +7,6 @@ mod equations;
 mod fault;
 mod invariants;
 mod levels;
-mod linear;
 mod polynomials;
 mod sorted;
 #[cfg(test)]

@@ -1,18 +1,28 @@
-ghost use Rattle.std.specs.Prelude.{◌≡◌, ◌≤◌, All, IfOk, length, map, replicate, vec_len};
+ghost use Rattle.std.specs.Prelude.{◌≡◌, ◌*◌, ◌<◌, [], All, IfOk, length, map, slice_index_or};
 ghost use Rattle.alg_core.specs.Fields.{Has};
 ghost use Rattle.alg_core.specs.Spaces.{over, entries, Fits, IsPlace};
 ghost use Rattle.alg_core.specs.Vectors.{vec};
-ghost use Rattle.lin_algebra.specs.Matrices.{IsMatrix, vectors_of};
+ghost use Rattle.lin_algebra.specs.Matrices.{IsMatrix, rows_of, vectors_of};
 ghost use Rattle.lin_algebra.specs.Vectors.{vector, IsRow};
 ghost use Rattle.invariant_space.specs.Columns.{IsColumnPlace, keys_of, IsPolynomialOf};
 ghost use Rattle.invariant_space.specs.Equations.{row_polynomial};
 
 use crate::columns::Column;
-use crate::linear::matrix_row;
 use alg_core::{Field, Memory, ModTerm, Monomial, Space, Term, TermOrder, is_zero};
 use lin_algebra::Matrix;
 use poly_module::{Poly, make};
 use std::alloc::Global;
+
+/// The cells of a row.
+fn matrix_row<E>(m: &Matrix<E>, i: usize) -> &[E]
+    requires whole { length m.now.cells.items ≡ m.now.rows * m.now.cols }
+    requires row { i < m.now.rows }
+    ensures is { result.now ≡ slice_index_or (rows_of m.now) i [] }
+    ensures count { length result.now ≡ m.now.cols }
+{
+    let cols = m.cols as usize;
+    &m.cells[i * cols..i * cols + cols]
+}
 
 /// The polynomial with these coefficients at the monomials of the columns.
 fn polynomial<F: Field, O: TermOrder>(

@@ -1,6 +1,6 @@
 use Rattle.std.proofs.Common.{◌≡◌, ◌*◌, ◌+◌, ◌-◌, ◌∙◌, ap₂, sym, take, drop, arith}
 use Rattle.lin_algebra.proofs.CutLaws.{cut_at}
-use Rattle.invariant_space.proofs.linear.matrix_row.Goals as goal
+use Rattle.invariant_space.proofs.polynomials.matrix_row.Goals as goal
 
 pub returns-clause-is : goal.returns-clause-is
 returns-clause-is g c =
