@@ -6,3 +6,4 @@ pub mod BinomialLaws
 pub mod LevelLaws
 pub mod MonomialDegrees
 pub mod Images
+pub mod InsertionLaws
