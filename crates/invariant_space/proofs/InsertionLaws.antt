@@ -4,7 +4,7 @@ use Rattle.std.specs.Prelude.{All}
 use Rattle.std.specs.List.{insert, AllByRecursion as Each}
 use Rattle.std.specs.declared.cmp.Ordering.{Ordering}
 use Rattle.std.specs.declared.cmp.Ordering.TheVariants.{Less, Equal, Greater}
-use Rattle.std.proofs.lemmas.List.{take_more, take_all, drop_all}
+use Rattle.std.proofs.lemmas.List.{take_more, take_all, drop_all, length-map, get_or-map}
 use Rattle.std.proofs.lemmas.List.Elements.{All-cons, recursion_from_All, All-from_recursion}
 use Rattle.alg_core.specs.Keys.{Place, Key, key}
 use Rattle.alg_core.specs.KeyOrders.{OrderOn, greater_less, less_transitive}
@@ -12,11 +12,16 @@ use Rattle.alg_core.specs.Lists.{In}
 use Rattle.alg_core.specs.PlaceOrders.{PlaceOrder}
 use Rattle.alg_core.specs.Spaces.{SpaceOver, IsPlace}
 use Rattle.alg_core.specs.SpaceOrder.{key_order, key_compare_places}
+use Rattle.poly_module.specs.GreatestExponents.{total}
+use Rattle.lin_algebra.specs.declared.matrix.Matrix.{Matrix}
 use Rattle.lin_algebra.proofs.EachLaws.{Each_weaker}
 use Rattle.invariant_space.specs.declared.columns.Column.{Column}
-use Rattle.invariant_space.specs.Columns.{place_of, key_of, keys_of, IsColumnPlace}
-use Rattle.invariant_space.specs.Equations.{Falls}
+use Rattle.invariant_space.specs.Columns.{place_of, key_of, keys_of, IsColumnPlace, IsColumn}
+use Rattle.invariant_space.specs.InvariantSpaces.{IsOfDegree}
+use Rattle.invariant_space.specs.Levels.{IsLevel}
+use Rattle.invariant_space.specs.Equations.{Falls, IsMonomialList}
 use Rattle.invariant_space.specs.Insertions.{inserted_by, inserted}
+use Rattle.invariant_space.proofs.MonomialDegrees.{of_exponents, exponents_of}
 
 module _ {E : Type 0} (o : PlaceOrder) where
   -- what is kept in each case
@@ -100,3 +105,74 @@ module _ {E : Type 0} (S : SpaceOver E) where
       (λ e. falls)
       (λ e. let first = above c x h all.0 e in
       ((first, Each_weaker (λ s. (key_order S).compare s (key_of x) ≡ Less) (λ s. (key_order S).compare s (key_of c) ≡ Less) (λ s l. less_transitive (key_order S) s (key_of x) (key_of c) l first) (keys_of xs) falls.0), falls))
+
+  -- the columns that are left and those that are sorted: all of one degree
+  pub record Sorting (gens : List (Matrix E)) (d : ℕ) (left sorted : List (Column E)) : Type 0 where
+    pub left_are : Each (λ c. IsColumn S gens c × (total c.at.mono ≡ d)) left
+    pub sorted_are : Each (λ c. IsColumn S gens c × (total c.at.mono ≡ d)) sorted
+    pub falls : Falls (key_order S) (keys_of sorted)
+    pub all : (a : List ℕ) → length a ≡ length S.weights → total a ≡ d → In a (map (λ c. c.at.mono) left) ⊎ In a (map (λ c. c.at.mono) sorted)
+
+  places : (gens : List (Matrix E)) (d : ℕ) (cs : List (Column E)) → Each (λ c. IsColumn S gens c × (total c.at.mono ≡ d)) cs → Each (IsColumnPlace S) cs
+  places gens d = Each_weaker (λ c. IsColumn S gens c × (total c.at.mono ≡ d)) (IsColumnPlace S) (λ c h. h.0.place)
+
+  pub sorting_places : (gens : List (Matrix E)) (d : ℕ) (left sorted : List (Column E)) → Sorting gens d left sorted → All (IsColumnPlace S) sorted
+  sorting_places gens d left sorted h = All-from_recursion (IsColumnPlace S) sorted (places gens d sorted h.sorted_are)
+
+  pub sorting_columns : (gens : List (Matrix E)) (d : ℕ) (left sorted : List (Column E)) → Sorting gens d left sorted → All (IsColumn S gens) sorted
+  sorting_columns gens d left sorted h = All-from_recursion (IsColumn S gens) sorted (Each_weaker (λ c. IsColumn S gens c × (total c.at.mono ≡ d)) (IsColumn S gens) (λ c p. p.0) sorted h.sorted_are)
+
+  -- the first that is left
+  pub sorting_next : (gens : List (Matrix E)) (d : ℕ) (left rest sorted : List (Column E)) (c : Column E) → left ≡ c ∷ rest → Sorting gens d left sorted → IsColumnPlace S c
+  sorting_next gens d left rest sorted c first h = (subst (Each (λ c. IsColumn S gens c × (total c.at.mono ≡ d))) first h.left_are).0.0.place
+
+  pub sorting_start : (gens : List (Matrix E)) (d : ℕ) (level left sorted : List (Column E)) → left ≡ level → sorted ≡ [] → All (IsColumn S gens) level → IsLevel (length S.weights) d (map (λ c. c.at.mono) level) → Sorting gens d left sorted
+  sorting_start gens d level left sorted same none columns h = subst (λ l. Sorting gens d l sorted) (sym same) (subst (Sorting gens d level) (sym none) (record {
+    left_are = recursion_from_All (λ c. IsColumn S gens c × (total c.at.mono ≡ d)) level (λ i c w. (columns i c w, degree i c w));
+    sorted_are = tt;
+    falls = tt;
+    all = λ a w e. inl (h.all a w e);
+  }))
+    where
+      degree : (i : ℕ) (c : Column E) → i < length level → total (get_or level i c).at.mono ≡ d
+      degree i c w =
+          let there : i < length (map (λ (c : Column E). c.at.mono) level) = (let l = length-map level (λ (c : Column E). c.at.mono) in omega arith) in
+          ap total (sym (get_or-map (λ (c : Column E). c.at.mono) level i c c.at.mono w)) ∙ (h.each i c.at.mono there).1
+
+  pub sorting_more : (gens : List (Matrix E)) (d : ℕ) (left rest sorted new : List (Column E)) (c : Column E) → left ≡ c ∷ rest → new ≡ inserted S.order c sorted → Sorting gens d left sorted → Sorting gens d rest new
+  sorting_more gens d left rest sorted new c first is h =
+      let are = subst (Each (λ c. IsColumn S gens c × (total c.at.mono ≡ d))) first h.left_are in
+      subst (Sorting gens d rest) (sym is) (record {
+        left_are = are.1;
+        sorted_are = inserted_each S.order (λ c. IsColumn S gens c × (total c.at.mono ≡ d)) c sorted are.0 h.sorted_are;
+        falls = inserted_falls c sorted are.0.0.place (places gens d sorted h.sorted_are) h.falls;
+        all = λ a w e. there a (subst (λ l. In a (map (λ c. c.at.mono) l) ⊎ In a (map (λ c. c.at.mono) sorted)) first (h.all a w e));
+      })
+    where
+      there : (a : List ℕ) → In a (map (λ c. c.at.mono) (c ∷ rest)) ⊎ In a (map (λ c. c.at.mono) sorted) → In a (map (λ c. c.at.mono) rest) ⊎ In a (map (λ c. c.at.mono) (inserted S.order c sorted))
+      there a (inl (inl e)) = inr (subst (λ b. In b (map (λ c. c.at.mono) (inserted S.order c sorted))) e (inserted_has S.order c sorted))
+      there a (inl (inr i)) = inl i
+      there a (inr i) = inr (inserted_keeps S.order c sorted a i)
+
+  key_there : (a : List ℕ) (cs : List (Column E)) → Each (IsColumnPlace S) cs → In a (map (λ c. c.at.mono) cs) → In (key (0, a)) (keys_of cs)
+  key_there a [] h i = absurd i
+  key_there a (c ∷ cs) h (inl e) = inl (ap₂ (λ p b. key (p, b)) h.0.position e)
+  key_there a (c ∷ cs) h (inr i) = inr (key_there a cs h.1 i)
+
+  key_degree : (gens : List (Matrix E)) (d : ℕ) (t : Key) (cs : List (Column E)) → Each (λ c. IsColumn S gens c × (total c.at.mono ≡ d)) cs → In t (keys_of cs) → IsOfDegree (length S.weights) d t
+  key_degree gens d t [] h i = absurd i
+  key_degree gens d t (c ∷ cs) h (inl e) =
+      let at = of_exponents (length S.weights) c.at.mono h.0.0.place.place.wide in
+      subst (IsOfDegree (length S.weights) d) (ap (λ p. key (p, c.at.mono)) (sym h.0.0.place.position) ∙ e) (subst (λ e. IsOfDegree (length S.weights) e (key (0, c.at.mono))) h.0.1 at)
+  key_degree gens d t (c ∷ cs) h (inr i) = key_degree gens d t cs h.1 i
+
+  pub sorting_done : (gens : List (Matrix E)) (d : ℕ) (left sorted : List (Column E)) → length left ≡ 0 → Sorting gens d left sorted → IsMonomialList (key_order S) (length S.weights) d (keys_of sorted)
+  sorting_done gens d (c ∷ left) sorted none h = absurd (omega arith)
+  sorting_done gens d [] sorted none h = record { falls = h.falls; all = λ t. (key_degree gens d t sorted h.sorted_are, λ is. there t (exponents_of (length S.weights) d t is)) }
+    where
+      found : (a : List ℕ) → ⊥ ⊎ In a (map (λ c. c.at.mono) sorted) → In a (map (λ c. c.at.mono) sorted)
+      found a (inl i) = absurd i
+      found a (inr i) = i
+
+      there : (t : Key) → (a : List ℕ) × (length a ≡ length S.weights) × (total a ≡ d) × (key (0, a) ≡ t) → In t (keys_of sorted)
+      there t p = subst (λ s. In s (keys_of sorted)) p.3 (key_there p.0 sorted (places gens d sorted h.sorted_are) (found p.0 (h.all p.0 p.1 p.2)))

@@ -7,3 +7,4 @@ pub mod LevelLaws
 pub mod MonomialDegrees
 pub mod Images
 pub mod InsertionLaws
+pub mod RowSteps
