@@ -8,3 +8,4 @@ pub mod MonomialDegrees
 pub mod Images
 pub mod InsertionLaws
 pub mod RowSteps
+pub mod SpreadLaws

@@ -11,7 +11,11 @@ use Rattle.alg_core.proofs.VectorLaws.{vec_append, vec_nothing, vec_single, plus
 use Rattle.poly_module.specs.Polynomials.{single_vector}
 use Rattle.poly_module.proofs.CheckedEntries.{all_pushed}
 use Rattle.poly_module.proofs.ExponentBounds.{vec_supp, fits_keys}
+use Rattle.std.proofs.lemmas.List.Elements.{All-push}
+use Rattle.lin_algebra.specs.declared.matrix.Matrix.{Matrix}
+use Rattle.lin_algebra.specs.Matrices.{rows_of, vectors_of, entries as cells_of}
 use Rattle.lin_algebra.specs.Vectors.{vector}
+use Rattle.lin_algebra.proofs.CutLaws.{listing, vectors_of_listing}
 use Rattle.invariant_space.specs.declared.columns.Column.{Column}
 use Rattle.invariant_space.specs.Columns.{place_of, key_of, keys_of, IsPolynomialOf, IsColumnPlace}
 use Rattle.invariant_space.specs.Equations.{row_polynomial}
@@ -21,6 +25,18 @@ module _ {E : Type 0} (k : FieldOn E) where
   row_push : (ts : List Key) (t : Key) (w : ℕ → Scalar k) → row_polynomial k (ts ++ t ∷ []) w ≡ plus k (row_polynomial k ts w) ((vectors k).◌·◌ (w (length ts)) (single_vector k t))
   row_push [] t w = plus_zero k _ ∙ sym (zero_plus k _)
   row_push (s ∷ ts) t w = ap (plus k ((vectors k).◌·◌ (w 0) (single_vector k s))) (row_push ts t (λ l. w (suc l))) ∙ sym (plus_assoc k _ _ _)
+
+-- the element at a place
+pub element_there : {A : Type 0} (l : List A) (i : ℕ) → i < length l → A
+element_there [] i h = absurd (omega arith)
+element_there (x ∷ l) zero h = x
+element_there (x ∷ l) (suc i) h = element_there l i (omega arith)
+
+pub element_read : {A : Type 0} (l : List A) (i : ℕ) (h : i < length l) → element_there l i h ≡ get_or l i (element_there l i h)
+unfolding element_there
+element_read [] i h = absurd (omega arith)
+element_read (x ∷ l) zero h = refl
+element_read (x ∷ l) (suc i) h = element_read l i (omega arith)
 
 module _ {E : Type 0} (S : SpaceOver E) where
   abbrev Terms : Type 0
@@ -90,3 +106,32 @@ module _ {E : Type 0} (S : SpaceOver E) where
     positions = fits_keys S (λ t. t.0 ≡ 0) (entries (λ m. m) p) fits (subst (λ v. (t : Key) → ¬ (coef_at S.field v t ≡ (scalars S.field).zero) → t.0 ≡ 0) (sym same) (vec_supp S.field (λ t. t.0 ≡ 0) (entries (λ m. m) terms) row.first));
     is = same ∙ row.is ∙ ap (λ l. row_polynomial S.field (keys_of l) w) (take_all l cs past);
   }
+
+  -- the polynomials of the first rows
+  pub record Rows (cs : List (Column E)) (a : Matrix E) (i : ℕ) (ps : List Terms) : Type 0 where
+    pub fits : All (λ p. Fits S (entries (λ m. m) p)) ps
+    pub first : All (λ p. All (λ e. e.0.0 ≡ 0) (entries (λ m. m) p)) ps
+    pub are : map (λ p. vec S.field (entries (λ m. m) p)) ps ≡ listing (λ j. row_polynomial S.field (keys_of cs) (cells_of S.field a j)) i
+
+  pub rows_none : (cs : List (Column E)) (a : Matrix E) (ps : List Terms) → ps ≡ [] → Rows cs a 0 ps
+  rows_none cs a ps none = subst (Rows cs a 0) (sym none) record { fits = λ i d h. absurd (omega arith); first = λ i d h. absurd (omega arith); are = refl }
+
+  pub rows_more : (cs : List (Column E)) (a : Matrix E) (i : ℕ) (ps new : List Terms) (p : Terms) (row : List E) → row ≡ get_or (rows_of a) i [] → new ≡ ps ++ p ∷ [] → IsPolynomialOf S (row_polynomial S.field (keys_of cs) (vector S.field row)) p → Rows cs a i ps → Rows cs a (i + 1) new
+  rows_more cs a i ps new p row read more is was =
+      let next : suc i ≡ i + 1 = omega arith in
+      let f : ℕ → Vect S.field = λ j. row_polynomial S.field (keys_of cs) (cells_of S.field a j) in
+      let g : Terms → Vect S.field = λ p. vec S.field (entries (λ m. m) p) in
+      subst (Rows cs a (i + 1)) (sym more) record {
+        fits = All-push (λ p. Fits S (entries (λ m. m) p)) ps p was.fits is.fits;
+        first = All-push (λ p. All (λ e. e.0.0 ≡ 0) (entries (λ m. m) p)) ps p was.first is.positions;
+        are = map-append g ps (p ∷ []) ∙ ap₂ (λ l v. l ++ v ∷ []) was.are (is.is ∙ ap (λ r. row_polynomial S.field (keys_of cs) (vector S.field r)) read) ∙ ap (listing f) next;
+      }
+
+  map_listing : {A B : Type 0} (f : A → B) (g : ℕ → A) (n : ℕ) → map f (listing g n) ≡ listing (λ i. f (g i)) n
+  map_listing f g zero = refl
+  map_listing f g (suc n) = map-append f (listing g n) (g n ∷ []) ∙ ap (λ l. l ++ f (g n) ∷ []) (map_listing f g n)
+
+  pub rows_whole : (cs : List (Column E)) (a : Matrix E) (i : ℕ) (ps : List Terms) → i ≡ a.rows → Rows cs a i ps → map (λ p. vec S.field (entries (λ m. m) p)) ps ≡ map (row_polynomial S.field (keys_of cs)) (vectors_of S.field a)
+  rows_whole cs a i ps all rows =
+      rows.are ∙ ap (listing (λ j. row_polynomial S.field (keys_of cs) (cells_of S.field a j))) all ∙ sym (map_listing (row_polynomial S.field (keys_of cs)) (cells_of S.field a) a.rows)
+      ∙ ap (map (row_polynomial S.field (keys_of cs))) (sym (vectors_of_listing S.field a))

@@ -1,7 +1,8 @@
-ghost use Rattle.std.specs.Prelude.{◌≡◌, ◌<◌, ◌+◌, ◌*◌, ℕ, [], All, IfOk, length, map, slice_index_or, vec_len};
-ghost use Rattle.alg_core.specs.Fields.{Has, scalars};
+ghost use Rattle.std.specs.Prelude.{◌≡◌, ◌<◌, ◌+◌, ℕ, List, [], ◌∷◌, All, IsSome, IfSome, IfNone, IfOk, drop, length, map, slice_index_or};
+ghost use Rattle.alg_core.specs.Keys.{Place};
+ghost use Rattle.alg_core.specs.Fields.{scalars};
 ghost use Rattle.alg_core.specs.SpaceOrder.{key_order};
-ghost use Rattle.alg_core.specs.Spaces.{over, entries, Fits};
+ghost use Rattle.alg_core.specs.Spaces.{over, entries, Fits, IsPlace};
 ghost use Rattle.lin_algebra.specs.Vectors.{vector, unit, IsRow};
 ghost use Rattle.lin_algebra.specs.declared.matrix.Matrix.{Matrix};
 ghost use Rattle.invariant_space.specs.Columns.{IsColumn, IsColumnPlace, places_of, keys_of};
@@ -9,13 +10,38 @@ ghost use Rattle.invariant_space.specs.Equations.{IsMonomialList, IsEquations};
 ghost use Rattle.invariant_space.specs.Systems.{spread, IsBlock};
 
 use crate::columns::Column;
-use alg_core::{Field, Memory, Space, TermOrder};
+use alg_core::{Field, Memory, ModTerm, Mono, Space, Term, TermOrder};
 use lin_algebra::Matrix;
 use poly_module::Poly;
 use std::alloc::Global;
 use std::cmp::Ordering;
 
-/// The coefficients of a polynomial at the monomials of the columns, which are its only ones.
+/// The coefficient of the term at the place j, where there is one and it stands at this monomial.
+fn value_at<F: Field, O: TermOrder>(
+    space: &Space<F, O>,
+    terms: &[Term<F::Elem, Mono>],
+    j: usize,
+    at: &ModTerm<Mono>,
+) -> Option<F::Elem>
+    requires place { IsPlace (over F.field O.order space.now) (at.now.pos, at.now.mono) }
+    requires fits { Fits (over F.field O.order space.now) (entries (λ m. m) terms.now) }
+    ensures within { IsSome result → j < length terms.now }
+    ensures some { let S = over F.field O.order space.now in IfSome result (λ a. (ps : List Place) →
+        spread S (entries (λ m. m) (drop j terms.now)) ((at.now.pos, at.now.mono) ∷ ps) ≡ a ∷ spread S (entries (λ m. m) (drop (j + 1) terms.now)) ps) }
+    ensures none { let S = over F.field O.order space.now in IfNone result ((ps : List Place) →
+        spread S (entries (λ m. m) (drop j terms.now)) ((at.now.pos, at.now.mono) ∷ ps) ≡ S.field.zero ∷ spread S (entries (λ m. m) (drop j terms.now)) ps) }
+{
+    if j >= terms.len() {
+        return None;
+    }
+    let term = &terms[j];
+    match space.order.compare(&term.at, at) {
+        Ordering::Equal => Some(term.coef),
+        _ => None,
+    }
+}
+
+/// The coefficients of a polynomial at the monomials of the columns.
 fn coordinates<F: Field, O: TermOrder>(
     alloc: Global,
     space: &Space<F, O>,
@@ -31,16 +57,12 @@ fn coordinates<F: Field, O: TermOrder>(
     let mut j = 0;
     for l in 0..columns.len() {
         let column = &columns[l];
-        if j < terms.len() {
-            let term = &terms[j];
-            if space.order.compare(&term.at, &column.at) == Ordering::Equal {
-                row.push(term.coef)?;
+        match value_at(space, terms, j, &column.at) {
+            Some(value) => {
                 j += 1;
-            } else {
-                row.push(space.field.zero())?;
+                row.push(value)?;
             }
-        } else {
-            row.push(space.field.zero())?;
+            None => row.push(space.field.zero())?,
         }
     }
     Ok(row)
