@@ -9,3 +9,4 @@ pub mod Images
 pub mod InsertionLaws
 pub mod RowSteps
 pub mod SpreadLaws
+pub mod EquationSteps

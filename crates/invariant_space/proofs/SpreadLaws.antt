@@ -14,7 +14,8 @@ use Rattle.alg_core.specs.Keys.{Place, Key, key, key_same, key_injective}
 use Rattle.alg_core.specs.KeyOrders.{OrderOn, greater_less, less_irreflexive, less_asymmetric}
 use Rattle.alg_core.specs.Lists.{In}
 use Rattle.alg_core.specs.Vectors.{Entry, Vect, vectors, vec, coef_at, plus}
-use Rattle.alg_core.specs.Spaces.{SpaceOver, IsAbove, Fits}
+use Rattle.alg_core.specs.Spaces.{SpaceOver, place, entries, IsAbove, Fits}
+use Rattle.alg_core.specs.declared.term.Term.{Term}
 use Rattle.alg_core.specs.SpaceOrder.{key_order, key_compare_places}
 use Rattle.alg_core.proofs.VectorLaws.{vec_cons, vec_single, coef_at_plus}
 use Rattle.poly_module.specs.Polynomials.{single_vector}
@@ -22,6 +23,8 @@ use Rattle.poly_module.specs.Parts.{supp_outside, coef_at_single}
 use Rattle.poly_module.proofs.EchelonLists.{coef_at_act}
 use Rattle.poly_module.proofs.ExponentBounds.{vec_supp}
 use Rattle.lin_algebra.proofs.EachLaws.{Each_both, Each_weaker}
+use Rattle.invariant_space.specs.declared.columns.Column.{Column}
+use Rattle.invariant_space.specs.Columns.{place_of, places_of}
 use Rattle.invariant_space.specs.Equations.{Falls}
 use Rattle.invariant_space.specs.Systems.{spread_by, spread}
 use Rattle.invariant_space.proofs.RowPolynomials.{each_in}
@@ -111,14 +114,6 @@ module _ {E : Type 0} (S : SpaceOver E) where
       past : (s : ℕ) → s < length ps → b ≡ get_or ps s b → ¬ (key p ≡ key b)
       past s w r q = smaller_other (key b) (key p) (each_in (λ t. Smaller t (key p)) (map key ps) falls.0 (key b) (place_there ps s b w r)) (sym q)
 
-      go : (r : Ordering) → S.order.compare e.0 p ≡ r
-          → (Each (λ f. In (key f.0) (map key ps)) es → (s : ℕ) (b : Place) → s < length ps → b ≡ get_or ps s b → scalar S.field (get_or (spread S es ps) s S.field.zero) ≡ coef_at S.field (vec S.field es) (key b))
-          → (Each (λ f. In (key f.0) (map key ps)) (e ∷ es) → (s : ℕ) (b : Place) → s < length ps → b ≡ get_or ps s b → scalar S.field (get_or (spread S (e ∷ es) ps) s S.field.zero) ≡ coef_at S.field (vec S.field (e ∷ es)) (key b))
-          → (s : ℕ) → s < length (p ∷ ps) → b ≡ get_or (p ∷ ps) s b → scalar S.field (get_or (spread_by S r e.1 (spread S es ps) (spread S (e ∷ es) ps)) s S.field.zero) ≡ coef_at S.field (vec S.field (e ∷ es)) (key b)
-      go Less c taken left s w r = missed Less c (λ q. cc) left s w r
-      go Greater c taken left s w r = missed Greater c (λ q. cc) left s w r
-      go Equal c taken left s w r = met (S.order.tied e.0 p c) taken s w r
-
       met : e.0 ≡ p
           → (Each (λ f. In (key f.0) (map key ps)) es → (s : ℕ) (b : Place) → s < length ps → b ≡ get_or ps s b → scalar S.field (get_or (spread S es ps) s S.field.zero) ≡ coef_at S.field (vec S.field es) (key b))
           → (s : ℕ) → s < length (p ∷ ps) → b ≡ get_or (p ∷ ps) s b → scalar S.field (get_or (e.1 ∷ spread S es ps) s S.field.zero) ≡ coef_at S.field (vec S.field (e ∷ es)) (key b)
@@ -149,3 +144,55 @@ module _ {E : Type 0} (S : SpaceOver E) where
           at : (s : ℕ) → s < length (p ∷ ps) → b ≡ get_or (p ∷ ps) s b → scalar S.field (get_or (S.field.zero ∷ spread S (e ∷ es) ps) s S.field.zero) ≡ coef_at S.field (vec S.field (e ∷ es)) (key b)
           at zero w r = scalar_zero S.field ∙ sym (coef_none S.field (e ∷ es) (key b) (subst (λ t. Each (λ f. ¬ (key f.0 ≡ t)) (e ∷ es)) (ap key (sym r)) (first, others)))
           at (suc s) w r = left (e_later, later p ps es there.1 others) s b (omega arith) r
+
+      go : (r : Ordering) → S.order.compare e.0 p ≡ r
+          → (Each (λ f. In (key f.0) (map key ps)) es → (s : ℕ) (b : Place) → s < length ps → b ≡ get_or ps s b → scalar S.field (get_or (spread S es ps) s S.field.zero) ≡ coef_at S.field (vec S.field es) (key b))
+          → (Each (λ f. In (key f.0) (map key ps)) (e ∷ es) → (s : ℕ) (b : Place) → s < length ps → b ≡ get_or ps s b → scalar S.field (get_or (spread S (e ∷ es) ps) s S.field.zero) ≡ coef_at S.field (vec S.field (e ∷ es)) (key b))
+          → (s : ℕ) → s < length (p ∷ ps) → b ≡ get_or (p ∷ ps) s b → scalar S.field (get_or (spread_by S r e.1 (spread S es ps) (spread S (e ∷ es) ps)) s S.field.zero) ≡ coef_at S.field (vec S.field (e ∷ es)) (key b)
+      go Less c taken left s w r = missed Less c (λ q. cc) left s w r
+      go Greater c taken left s w r = missed Greater c (λ q. cc) left s w r
+      go Equal c taken left s w r = met (S.order.tied e.0 p c) taken s w r
+
+  abbrev terms_at : List (Term E (List ℕ)) → ℕ → List (Entry E)
+  terms_at terms j = entries (λ m. m) (drop j terms)
+
+  pub spread_taken : (terms : List (Term E (List ℕ))) (j : ℕ) (x : Term E (List ℕ)) (p : Place) → j < length terms → x ≡ get_or terms j x → S.order.compare (place (λ m. m) x.at) p ≡ Equal
+      → (ps : List Place) → spread S (entries (λ m. m) (drop j terms)) (p ∷ ps) ≡ x.coef ∷ spread S (entries (λ m. m) (drop (j + 1) terms)) ps
+  spread_taken terms j x p inside read equal ps =
+      let next : suc j ≡ j + 1 = omega arith in
+      let cut : drop j terms ≡ x ∷ drop (suc j) terms = drop-cons terms j x inside ∙ ap (λ y. y ∷ drop (suc j) terms) (sym read) in
+      ap (λ l. spread S (entries (λ m. m) l) (p ∷ ps)) cut ∙ ap (λ r. spread_by S r x.coef (spread S (terms_at terms (suc j)) ps) (spread S (entries (λ m. m) (x ∷ drop (suc j) terms)) ps)) equal
+      ∙ ap (λ i. x.coef ∷ spread S (terms_at terms i) ps) next
+
+  pub spread_left : (terms : List (Term E (List ℕ))) (j : ℕ) (x : Term E (List ℕ)) (p : Place) → j < length terms → x ≡ get_or terms j x → ¬ (S.order.compare (place (λ m. m) x.at) p ≡ Equal)
+      → (ps : List Place) → spread S (entries (λ m. m) (drop j terms)) (p ∷ ps) ≡ S.field.zero ∷ spread S (entries (λ m. m) (drop j terms)) ps
+  spread_left terms j x p inside read other ps =
+      let cut : drop j terms ≡ x ∷ drop (suc j) terms = drop-cons terms j x inside ∙ ap (λ y. y ∷ drop (suc j) terms) (sym read) in
+      ap (λ l. spread S (entries (λ m. m) l) (p ∷ ps)) cut ∙ spread_other (S.order.compare (place (λ m. m) x.at) p) x.coef _ (spread S (entries (λ m. m) (x ∷ drop (suc j) terms)) ps) other
+      ∙ ap (λ l. S.field.zero ∷ spread S (entries (λ m. m) l) ps) (sym cut)
+
+  pub spread_past : (terms : List (Term E (List ℕ))) (j : ℕ) (p : Place) → length terms ≤ j → (ps : List Place) → spread S (entries (λ m. m) (drop j terms)) (p ∷ ps) ≡ S.field.zero ∷ spread S (entries (λ m. m) (drop j terms)) ps
+  spread_past terms j p past ps = ap (λ l. spread S (entries (λ m. m) l) (p ∷ ps)) (drop_all j terms past) ∙ ap (λ l. S.field.zero ∷ spread S (entries (λ m. m) l) ps) (sym (drop_all j terms past))
+
+  -- one value more
+  pub spread_step : (terms : List (Term E (List ℕ))) (cs : List (Column E)) (j i l : ℕ) (c : Column E) (row new : List E) (a : E) → l < length cs → c ≡ get_or cs l c → new ≡ row ++ a ∷ []
+      → ((ps : List Place) → spread S (entries (λ m. m) (drop j terms)) (place_of c ∷ ps) ≡ a ∷ spread S (entries (λ m. m) (drop i terms)) ps)
+      → row ++ spread S (entries (λ m. m) (drop j terms)) (places_of (drop l cs)) ≡ spread S (entries (λ m. m) terms) (places_of cs)
+      → new ++ spread S (entries (λ m. m) (drop i terms)) (places_of (drop (l + 1) cs)) ≡ spread S (entries (λ m. m) terms) (places_of cs)
+  spread_step terms cs j i l c row new a inside read is value was =
+      let next : l + 1 ≡ suc l = omega arith in
+      let cut : c ∷ drop (suc l) cs ≡ drop l cs = sym (drop-cons cs l c inside ∙ ap (λ y. y ∷ drop (suc l) cs) (sym read)) in
+      ap₂ (λ r n. r ++ spread S (terms_at terms i) (places_of (drop n cs))) is next ∙ append_assoc row (a ∷ []) (spread S (terms_at terms i) (places_of (drop (suc l) cs)))
+      ∙ ap (λ m. row ++ m) (sym (value (places_of (drop (suc l) cs)))) ∙ ap (λ m. row ++ spread S (terms_at terms j) (places_of m)) cut ∙ was
+
+  pub spread_end : (terms : List (Term E (List ℕ))) (cs : List (Column E)) (j l : ℕ) (row : List E) → length cs ≤ l
+      → row ++ spread S (entries (λ m. m) (drop j terms)) (places_of (drop l cs)) ≡ spread S (entries (λ m. m) terms) (places_of cs) → row ≡ spread S (entries (λ m. m) terms) (places_of cs)
+  spread_end terms cs j l row past was = sym (nothing (terms_at terms j)) ∙ ap (λ m. row ++ spread S (terms_at terms j) (places_of m)) (sym (drop_all l cs past)) ∙ was
+    where
+      append_nil : {B : Type 0} (l : List B) → l ++ [] ≡ l
+      append_nil [] = refl
+      append_nil (y ∷ l) = ap (λ m. y ∷ m) (append_nil l)
+
+      nothing : (es : List (Entry E)) → row ++ spread S es [] ≡ row
+      nothing [] = append_nil row
+      nothing (e ∷ es) = append_nil row
