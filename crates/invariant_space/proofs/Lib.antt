@@ -10,3 +10,4 @@ pub mod InsertionLaws
 pub mod RowSteps
 pub mod SpreadLaws
 pub mod EquationSteps
+pub mod BlockLaws

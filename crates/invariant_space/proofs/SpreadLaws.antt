@@ -175,7 +175,7 @@ module _ {E : Type 0} (S : SpaceOver E) where
   spread_past terms j p past ps = ap (λ l. spread S (entries (λ m. m) l) (p ∷ ps)) (drop_all j terms past) ∙ ap (λ l. S.field.zero ∷ spread S (entries (λ m. m) l) ps) (sym (drop_all j terms past))
 
   -- one value more
-  pub spread_step : (terms : List (Term E (List ℕ))) (cs : List (Column E)) (j i l : ℕ) (c : Column E) (row new : List E) (a : E) → l < length cs → c ≡ get_or cs l c → new ≡ row ++ a ∷ []
+  spread_step : (terms : List (Term E (List ℕ))) (cs : List (Column E)) (j i l : ℕ) (c : Column E) (row new : List E) (a : E) → l < length cs → c ≡ get_or cs l c → new ≡ row ++ a ∷ []
       → ((ps : List Place) → spread S (entries (λ m. m) (drop j terms)) (place_of c ∷ ps) ≡ a ∷ spread S (entries (λ m. m) (drop i terms)) ps)
       → row ++ spread S (entries (λ m. m) (drop j terms)) (places_of (drop l cs)) ≡ spread S (entries (λ m. m) terms) (places_of cs)
       → new ++ spread S (entries (λ m. m) (drop i terms)) (places_of (drop (l + 1) cs)) ≡ spread S (entries (λ m. m) terms) (places_of cs)
@@ -185,7 +185,7 @@ module _ {E : Type 0} (S : SpaceOver E) where
       ap₂ (λ r n. r ++ spread S (terms_at terms i) (places_of (drop n cs))) is next ∙ append_assoc row (a ∷ []) (spread S (terms_at terms i) (places_of (drop (suc l) cs)))
       ∙ ap (λ m. row ++ m) (sym (value (places_of (drop (suc l) cs)))) ∙ ap (λ m. row ++ spread S (terms_at terms j) (places_of m)) cut ∙ was
 
-  pub spread_end : (terms : List (Term E (List ℕ))) (cs : List (Column E)) (j l : ℕ) (row : List E) → length cs ≤ l
+  spread_end : (terms : List (Term E (List ℕ))) (cs : List (Column E)) (j l : ℕ) (row : List E) → length cs ≤ l
       → row ++ spread S (entries (λ m. m) (drop j terms)) (places_of (drop l cs)) ≡ spread S (entries (λ m. m) terms) (places_of cs) → row ≡ spread S (entries (λ m. m) terms) (places_of cs)
   spread_end terms cs j l row past was = sym (nothing (terms_at terms j)) ∙ ap (λ m. row ++ spread S (terms_at terms j) (places_of m)) (sym (drop_all l cs past)) ∙ was
     where
@@ -196,3 +196,18 @@ module _ {E : Type 0} (S : SpaceOver E) where
       nothing : (es : List (Entry E)) → row ++ spread S es [] ≡ row
       nothing [] = append_nil row
       nothing (e ∷ es) = append_nil row
+
+  -- so far the values at the first l columns, and j of the terms are met
+  pub record Walk (terms : List (Term E (List ℕ))) (cs : List (Column E)) (j l : ℕ) (row : List E) : Type 0 where
+    pub within : j ≤ length terms
+    pub rest : row ++ spread S (entries (λ m. m) (drop j terms)) (places_of (drop l cs)) ≡ spread S (entries (λ m. m) terms) (places_of cs)
+
+  pub walk_start : (terms : List (Term E (List ℕ))) (cs : List (Column E)) (row : List E) → row ≡ [] → Walk terms cs 0 0 row
+  walk_start terms cs row none = record { within = omega arith; rest = ap (λ r. r ++ spread S (entries (λ m. m) terms) (places_of cs)) none }
+
+  pub walk_step : (terms : List (Term E (List ℕ))) (cs : List (Column E)) (j i l : ℕ) (c : Column E) (row new : List E) (a : E) → l < length cs → c ≡ get_or cs l c → new ≡ row ++ a ∷ [] → i ≤ length terms
+      → ((ps : List Place) → spread S (entries (λ m. m) (drop j terms)) (place_of c ∷ ps) ≡ a ∷ spread S (entries (λ m. m) (drop i terms)) ps) → Walk terms cs j l row → Walk terms cs i (l + 1) new
+  walk_step terms cs j i l c row new a inside read is low value was = record { within = low; rest = spread_step terms cs j i l c row new a inside read is value was.rest }
+
+  pub walk_end : (terms : List (Term E (List ℕ))) (cs : List (Column E)) (j l : ℕ) (row : List E) → length cs ≤ l → Walk terms cs j l row → row ≡ spread S (entries (λ m. m) terms) (places_of cs)
+  walk_end terms cs j l row past was = spread_end terms cs j l row past was.rest
