@@ -11,3 +11,4 @@ pub mod RowSteps
 pub mod SpreadLaws
 pub mod EquationSteps
 pub mod BlockLaws
+pub mod KernelBases
