@@ -1,5 +1,5 @@
 -- The coordinates of the images of all columns, and the system of all equations.
-use Rattle.std.proofs.Common.{◌≡◌, ◌⊎◌, ℕ, zero, suc, ◌+◌, ◌*◌, ◌/◌, ◌<◌, ◌≤◌, inl, inr, List, [], ◌∷◌, ◌++◌, length, map, get_or, Vec, Global, refl, sym, ap, ap₂, subst, ◌∙◌, arith}
+use Rattle.std.proofs.Common.{◌≡◌, ◌⊎◌, ℕ, suc, ◌+◌, ◌*◌, ◌/◌, ◌<◌, ◌≤◌, inl, inr, List, [], ◌∷◌, ◌++◌, length, map, get_or, Vec, Global, refl, sym, ap, ap₂, subst, ◌∙◌, arith}
 use Rattle.std.specs.Prelude.{All, Option, Some, SomeIff}
 use Rattle.std.specs.List.{AllByRecursion as Each}
 use native.Mathlib.Decide.{ℕ_discrete}
@@ -8,12 +8,12 @@ use Rattle.std.proofs.lemmas.Nat.{div-mul-add}
 use Rattle.std.proofs.Math.Nat.{mul-le-mul}
 use Rattle.std.proofs.lemmas.List.{map-append, length-map, get_or_append_left, get_or_push, get_or_default, get_or-map, length-append}
 use Rattle.std.proofs.lemmas.List.Elements.{All-push, All-append, All-from_recursion, recursion_from_All}
-use Rattle.alg_core.specs.Fields.{Has, Scalar, scalars, scalar}
-use Rattle.alg_core.specs.Keys.{Place, Key, key}
+use Rattle.alg_core.specs.Fields.{Has, Scalar, scalars}
+use Rattle.alg_core.specs.Keys.{key}
 use Rattle.alg_core.specs.Lists.{In}
-use Rattle.alg_core.specs.Vectors.{Entry, Vect, vec, coef_at}
+use Rattle.alg_core.specs.Vectors.{Vect, coef_at}
 use Rattle.alg_core.specs.declared.term.Term.{Term}
-use Rattle.alg_core.specs.Spaces.{SpaceOver, entries, Fits}
+use Rattle.alg_core.specs.Spaces.{SpaceOver, entries}
 use Rattle.alg_core.specs.SpaceOrder.{key_order}
 use Rattle.poly_module.specs.GreatestExponents.{total}
 use Rattle.poly_module.specs.Polynomials.{single_vector}
@@ -24,7 +24,6 @@ use Rattle.lin_algebra.specs.Matrices.{cut}
 use Rattle.lin_algebra.specs.Vectors.{vector, unit, IsRow}
 use Rattle.lin_algebra.proofs.CutLaws.{cut_more, length_cut}
 use Rattle.lin_algebra.proofs.DotLaws.{unit_at, unit_other}
-use Rattle.lin_algebra.proofs.EachLaws.{Each_weaker}
 use Rattle.matrix_group.specs.Actions.{act_by}
 use Rattle.invariant_space.specs.InvariantSpaces.{IsOfDegree}
 use Rattle.invariant_space.specs.declared.columns.Column.{Column}
@@ -65,8 +64,8 @@ module _ {E : Type 0} (S : SpaceOver E) where
       let read_place : place_of b ≡ get_or (places_of cs) s (place_of b) = ap place_of read ∙ sym (get_or-map place_of cs s b (place_of b) inside) in
       let keys : Each (λ e. In (key e.0) (map key (places_of cs))) (entries (λ m. m) p) =
       subst (λ l. Each (λ e. In (key e.0) l) (entries (λ m. m) p)) (sym (keys_places cs))
-          (recursion_from_All (λ e. In (key e.0) (keys_of cs)) (entries (λ m. m) p) (fits_keys S (λ t. In t (keys_of cs)) (entries (λ m. m) p) image.polynomial.fits
-          (λ t n. (monomials.all t).1 (subst (Supp S.field (IsOfDegree (length S.weights) d)) (sym image.polynomial.is) image.form t n)))) in
+      (recursion_from_All (λ e. In (key e.0) (keys_of cs)) (entries (λ m. m) p) (fits_keys S (λ t. In t (keys_of cs)) (entries (λ m. m) p) image.polynomial.fits
+      (λ t n. (monomials.all t).1 (subst (Supp S.field (IsOfDegree (length S.weights) d)) (sym image.polynomial.is) image.form t n)))) in
       ap (λ r. vector S.field r s) is
       ∙ spread_is S (entries (λ m. m) p) (places_of cs) image.polynomial.fits (subst (Falls (key_order S)) (sym (keys_places cs)) monomials.falls) (wide_places cs (recursion_from_All (IsColumnPlace S) cs places)) keys s (place_of b) there read_place
       ∙ ap (λ u. coef_at S.field u (key_of b)) image.polynomial.is
@@ -243,8 +242,8 @@ module _ {E : Type 0} (S : SpaceOver E) where
   system_step cs gens i s q m block seen row slice cells new falls matrix read same inside h is_row equation more whole next was =
       let n = seen_length cs m block seen same h in
       system_more cs gens i s q m (map (λ r. r.items) block) row cells new falls matrix read (omega arith) h (subst (λ n. IsRow S.field n row) n is_row)
-          (λ l w. equation l (omega arith) ∙ ap (λ (x : List (Vec E Global)). vector S.field (get_or (map (λ r. r.items) x) l []) s) same)
-          (more ∙ ap (λ r. cells ++ r) whole) (omega arith) was
+      (λ l w. equation l (omega arith) ∙ ap (λ (x : List (Vec E Global)). vector S.field (get_or (map (λ r. r.items) x) l []) s) same)
+      (more ∙ ap (λ r. cells ++ r) whole) (omega arith) was
 
   pub system_next : (cs : List (Column E)) (gens : List (Matrix E)) (i s q : ℕ) (m : Matrix E) (block : List (Vec E Global)) (cells : List E) → IsBlock S cs m (map (λ r. r.items) block) → length block ≤ s → s ≤ length block → q ≡ (i + 1) * length cs
       → IsSystem S cs gens (i * length cs + s) cells → IsSystem S cs gens q cells

@@ -1,11 +1,10 @@
 -- The entries of one equation.
-use Rattle.std.proofs.Common.{◌≡◌, ◌≢◌, ℕ, zero, suc, ◌+◌, ◌<◌, ◌≤◌, ◌⊎◌, inl, inr, List, [], ◌∷◌, ◌++◌, length, map, get_or, refl, sym, ap, ap₂, subst, ◌∙◌, arith}
+use Rattle.std.proofs.Common.{◌≡◌, ℕ, ◌+◌, ◌<◌, ◌≤◌, ◌⊎◌, inl, inr, List, [], ◌∷◌, ◌++◌, length, map, get_or, refl, sym, ap, ap₂, subst, ◌∙◌, arith}
 use Rattle.std.specs.Prelude.{All}
 use Rattle.std.proofs.lemmas.Bool.{cases_lt}
 use Rattle.std.proofs.Common.{Vec, Global}
 use Rattle.std.proofs.lemmas.List.{get_or_read, get_or_append_left, get_or_push, get_or-map, length-append}
 use Rattle.std.proofs.lemmas.List.Elements.{All-push}
-use Rattle.alg_core.specs.RingLaws as rings
 use Rattle.alg_core.specs.Fields.{FieldOn, Has, Scalar, scalars, scalar, scalar_add, scalar_neg, scalar_one}
 use Rattle.lin_algebra.specs.Vectors.{vector, unit, IsRow}
 use Rattle.lin_algebra.proofs.DotLaws.{unit_at, unit_other}
@@ -44,8 +43,8 @@ module _ {E : Type 0} (k : FieldOn E) where
   equation_at rows s l row new x m y is has same read minus sum was =
       let neg_has : Has k (k.neg k.one) = k.has_neg k.one k.has_one in
       more rows s l row new y is (subst (Has k) (sym (sum ∙ ap (k.add x) minus)) (k.has_add x (k.neg k.one) has neg_has))
-          (ap₂ plus (ap (scalar k) (sum ∙ ap (k.add x) minus) ∙ scalar_add k x (k.neg k.one) has neg_has ∙ ap (plus (scalar k x)) (scalar_neg k k.one k.has_one ∙ ap (scalars k).neg (scalar_one k))) (unit_at (scalars k) s l (sym same))
-          ∙ (scalars k).add_assoc _ _ _ ∙ ap (plus (scalar k x)) ((scalars k).add_comm _ _ ∙ (scalars k).add_neg _) ∙ (scalars k).add_zero _ ∙ sym read) was
+      (ap₂ plus (ap (scalar k) (sum ∙ ap (k.add x) minus) ∙ scalar_add k x (k.neg k.one) has neg_has ∙ ap (plus (scalar k x)) (scalar_neg k k.one k.has_one ∙ ap (scalars k).neg (scalar_one k))) (unit_at (scalars k) s l (sym same))
+      ∙ (scalars k).add_assoc _ _ _ ∙ ap (plus (scalar k x)) ((scalars k).add_comm _ _ ∙ (scalars k).add_neg _) ∙ (scalars k).add_zero _ ∙ sym read) was
 
   -- any other column
   pub equation_other : (rows : List (List E)) (s l : ℕ) (row new : List E) (x : E) → new ≡ row ++ x ∷ [] → Has k x → (l ≡ s → ⊥) → vector k (get_or rows l []) s ≡ scalar k x → Equation rows s l row → Equation rows s (l + 1) new

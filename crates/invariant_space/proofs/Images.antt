@@ -4,8 +4,8 @@ use Rattle.std.specs.Prelude.{All}
 use Rattle.std.proofs.lemmas.Bool.{cases_lt}
 use Rattle.std.proofs.lemmas.List.{get_or_default, get_or_append_left, get_or_push, length-append}
 use Rattle.alg_core.specs.ExponentLists.{product as list_product, Within}
-use Rattle.alg_core.specs.Keys.{Key, key, keys}
-use Rattle.alg_core.specs.Monomials.{Mon, monomials, mono, mono_ext, exponent, exponent_mono, exponent_one, mon_ext}
+use Rattle.alg_core.specs.Keys.{key}
+use Rattle.alg_core.specs.Monomials.{Mon, monomials, mono, exponent, exponent_mono, exponent_one, mon_ext}
 use Rattle.alg_core.specs.Vectors.{Vect, vec}
 use Rattle.alg_core.specs.declared.term.Term.{Term}
 use Rattle.alg_core.specs.Spaces.{SpaceOver, entries, Fits, IsPlace}
@@ -23,7 +23,7 @@ use Rattle.matrix_group.specs.Actions.{IsSquare, act_by, linear_form}
 use Rattle.matrix_group.proofs.ActionLaws.{act_product, act_variable, act_one}
 use Rattle.matrix_group.proofs.LinearForms.{linear_form_supp, image_inside}
 use Rattle.invariant_space.specs.InvariantSpaces.{IsOfDegree}
-use Rattle.invariant_space.specs.Columns.{key_of, IsPolynomialOf, IsImage, IsColumnPlace, IsColumn}
+use Rattle.invariant_space.specs.Columns.{IsImage, IsColumn}
 use Rattle.invariant_space.specs.declared.columns.Column.{Column}
 use Rattle.invariant_space.specs.Levels.{unit_exponents}
 use Rattle.invariant_space.proofs.MonomialDegrees.{of_exponents, of_degree, of_degree_times, bounded_of_degree, total_constant, total_times, variable_degree, key_times}
@@ -71,7 +71,7 @@ module _ {E : Type 0} (S : SpaceOver E) where
   product_image d e u v f p r h g fits is =
       let n = length S.weights in
       image_made (d + e) (product S.field u v) r fits (is ∙ ap₂ (product S.field) h.polynomial.is g.polynomial.is)
-          (supp_product S.field (IsOfDegree n d) (IsOfDegree n e) (IsOfDegree n (d + e)) (of_degree n (d + e)) (of_degree_times n d e) u v h.form g.form)
+      (supp_product S.field (IsOfDegree n d) (IsOfDegree n e) (IsOfDegree n (d + e)) (of_degree n (d + e)) (of_degree_times n d e) u v h.form g.form)
 
   -- 1 is its own image
   pub constant_image : (m : Matrix E) (p : Terms) → IsImage S 0 (one_vector S.field) p
@@ -86,7 +86,7 @@ module _ {E : Type 0} (S : SpaceOver E) where
   one_form =
       let n = length S.weights in
       subst (Supp S.field (IsOfDegree n 0)) (sym (one_vector_single S.field ∙ ap (single_vector S.field) (sym (key_constant n))))
-          (supp_single S.field (IsOfDegree n 0) (key (0, replicate n 0)) (subst (λ d. IsOfDegree n d (key (0, replicate n 0))) (total_constant n) (of_exponents n (replicate n 0) (length_zeros n))))
+      (supp_single S.field (IsOfDegree n 0) (key (0, replicate n 0)) (subst (λ d. IsOfDegree n d (key (0, replicate n 0))) (total_constant n) (of_exponents n (replicate n 0) (length_zeros n))))
     where
       length_zeros : (n : ℕ) → length {A = ℕ} (replicate n 0) ≡ n
       length_zeros zero = refl
@@ -129,7 +129,7 @@ module _ {E : Type 0} (S : SpaceOver E) where
         let n = length S.weights in
         let degree : 1 + total a ≡ total (list_product a (unit_exponents n i)) = omega (arith, total_times n i a h e) in
         subst (λ d. IsImage S d (act_by S.field m (single_vector S.field (key (0, list_product a (unit_exponents n i))))) r) degree
-            (subst (λ v. IsImage S (1 + total a) v r) (sym (act_times i a h e)) (product_image 1 (total a) _ _ f p r form image fits is))
+        (subst (λ v. IsImage S (1 + total a) v r) (sym (act_times i a h e)) (product_image 1 (total a) _ _ f p r form image fits is))
 
   -- so far these are the images of a monomial under the first q matrices
   pub record Imaged (gens : List (Matrix E)) (a : List ℕ) (q : ℕ) (images : List Terms) : Type 0 where
@@ -167,7 +167,7 @@ module _ {E : Type 0} (S : SpaceOver E) where
       let n = h.count in
       let low : i < length c.images.items = omega arith in
       subst (IsImage S (total c.at.mono) (act_by S.field x (single_vector S.field (key (0, c.at.mono))))) (sym (there ∙ get_or_default c.images.items i p [] low))
-          (subst (λ q. IsImage S (total c.at.mono) (act_by S.field x (single_vector S.field (key (q, c.at.mono)))) (get_or c.images.items i [])) h.place.position (h.image i x inside (sym read)))
+      (subst (λ q. IsImage S (total c.at.mono) (act_by S.field x (single_vector S.field (key (q, c.at.mono)))) (get_or c.images.items i [])) h.place.position (h.image i x inside (sym read)))
 
   pub column_made : (gens : List (Matrix E)) (c : Column E) → IsPlace S (0, replicate (length S.weights) 0) → c.at.pos ≡ 0 → length c.at.mono ≡ length S.weights → Imaged gens c.at.mono (length gens) c.images.items → IsColumn S gens c
   column_made gens c constants zero_there wide images = record {

@@ -1,16 +1,16 @@
 -- Insertion of columns keeps falling order.
-use Rattle.std.proofs.Common.{◌≡◌, ℕ, zero, suc, ◌+◌, ◌<◌, ◌≤◌, ◌⊎◌, inl, inr, List, [], ◌∷◌, ◌++◌, length, map, get_or, take, drop, refl, sym, ap, ap₂, subst, ◌∙◌, arith, drop-cons, append_assoc, take-append-drop}
+use Rattle.std.proofs.Common.{◌≡◌, ℕ, suc, ◌+◌, ◌<◌, ◌≤◌, ◌⊎◌, inl, inr, List, [], ◌∷◌, ◌++◌, length, map, get_or, take, drop, refl, sym, ap, ap₂, subst, ◌∙◌, arith, drop-cons, append_assoc, take-append-drop}
 use Rattle.std.specs.Prelude.{All}
 use Rattle.std.specs.List.{insert, AllByRecursion as Each}
 use Rattle.std.specs.declared.cmp.Ordering.{Ordering}
 use Rattle.std.specs.declared.cmp.Ordering.TheVariants.{Less, Equal, Greater}
 use Rattle.std.proofs.lemmas.List.{take_more, take_all, drop_all, length-map, get_or-map}
-use Rattle.std.proofs.lemmas.List.Elements.{All-cons, recursion_from_All, All-from_recursion}
-use Rattle.alg_core.specs.Keys.{Place, Key, key}
-use Rattle.alg_core.specs.KeyOrders.{OrderOn, greater_less, less_transitive}
+use Rattle.std.proofs.lemmas.List.Elements.{recursion_from_All, All-from_recursion}
+use Rattle.alg_core.specs.Keys.{Key, key}
+use Rattle.alg_core.specs.KeyOrders.{greater_less, less_transitive}
 use Rattle.alg_core.specs.Lists.{In}
 use Rattle.alg_core.specs.PlaceOrders.{PlaceOrder}
-use Rattle.alg_core.specs.Spaces.{SpaceOver, IsPlace}
+use Rattle.alg_core.specs.Spaces.{SpaceOver}
 use Rattle.alg_core.specs.SpaceOrder.{key_order, key_compare_places}
 use Rattle.poly_module.specs.GreatestExponents.{total}
 use Rattle.lin_algebra.specs.declared.matrix.Matrix.{Matrix}
@@ -99,9 +99,11 @@ module _ {E : Type 0} (S : SpaceOver E) where
   pub inserted_falls : (c : Column E) (xs : List (Column E)) → IsColumnPlace S c → Each (IsColumnPlace S) xs → Falls (key_order S) (keys_of xs) → Falls (key_order S) (keys_of (inserted S.order c xs))
   inserted_falls c [] h all falls = (tt, tt)
   inserted_falls c (x ∷ xs) h all falls = by_cases S.order (λ l. Falls (key_order S) (keys_of l)) c x xs
-      (λ e. (each_keys (λ s. (key_order S).compare s (key_of x) ≡ Less) (inserted S.order c xs)
-      (inserted_each S.order (λ y. (key_order S).compare (key_of y) (key_of x) ≡ Less) c xs (below c x h all.0 e) (keys_each (λ s. (key_order S).compare s (key_of x) ≡ Less) xs falls.0)),
-      inserted_falls c xs h all.1 falls.1))
+      (λ e. (
+        each_keys (λ s. (key_order S).compare s (key_of x) ≡ Less) (inserted S.order c xs)
+            (inserted_each S.order (λ y. (key_order S).compare (key_of y) (key_of x) ≡ Less) c xs (below c x h all.0 e) (keys_each (λ s. (key_order S).compare s (key_of x) ≡ Less) xs falls.0)),
+        inserted_falls c xs h all.1 falls.1,
+      ))
       (λ e. falls)
       (λ e. let first = above c x h all.0 e in
       ((first, Each_weaker (λ s. (key_order S).compare s (key_of x) ≡ Less) (λ s. (key_order S).compare s (key_of c) ≡ Less) (λ s l. less_transitive (key_order S) s (key_of x) (key_of c) l first) (keys_of xs) falls.0), falls))

@@ -1,5 +1,5 @@
 -- The polynomials of the kernel of the equations are the echelon basis of the invariants.
-use Rattle.std.proofs.Common.{◌≡◌, ◌↔◌, ◌∙◌, ℕ, List, ap, length, map, subst, sym, arith}
+use Rattle.std.proofs.Common.{◌≡◌, ◌↔◌, ◌∙◌, ℕ, List, ap, length, map, subst, sym}
 use Rattle.std.specs.Prelude.{All}
 use Rattle.std.specs.List.{zip}
 use Rattle.std.proofs.lemmas.List.{length-map}
@@ -39,4 +39,4 @@ module _ {E : Type 0} (S : SpaceOver E) (gens : List (Matrix E)) (d : ℕ) where
       → vs ≡ map (row_polynomial S.field (keys_of again)) (vectors_of S.field b) → IsEchelonBasis S gens d vs
   kernel_basis cs seen again a b vs same same' monomials square equations echelon kernel are =
       subst (IsEchelonBasis S gens d) (sym (are ∙ ap (λ l. map (row_polynomial S.field (keys_of l)) (vectors_of S.field b)) (same' ∙ sym same)))
-          (basis_of_kernel S gens d (keys_of seen) (seen_monomials cs seen same monomials) square a b equations echelon kernel)
+      (basis_of_kernel S gens d (keys_of seen) (seen_monomials cs seen same monomials) square a b equations echelon kernel)

@@ -1,18 +1,15 @@
 -- How all monomials of a degree come from those of the degree below.
-use Rattle.std.proofs.Common.{◌≡◌, ◌⊎◌, ℕ, zero, suc, ◌+◌, ◌-◌, ◌<◌, ◌≤◌, inl, inr, List, [], ◌∷◌, ◌++◌, length, map, get_or, set, take, drop, replicate, All, refl, sym, ap, ap₂, subst, ◌∙◌, arith, drop-cons, append_assoc}
+use Rattle.std.proofs.Common.{◌≡◌, ◌⊎◌, ℕ, zero, suc, ◌+◌, ◌-◌, ◌<◌, ◌≤◌, inl, inr, List, [], ◌∷◌, ◌++◌, length, map, get_or, take, drop, replicate, All, refl, sym, ap, ap₂, subst, ◌∙◌, arith, drop-cons, append_assoc}
 use Rattle.std.specs.List.{flat_map}
 use Rattle.std.proofs.lemmas.List.{drop_all, map-append, length-replicate, get_or-map, length-map}
 use Rattle.std.proofs.lemmas.List.Elements.{All-append, All-push}
-use Rattle.alg_core.specs.Spaces.{SpaceOver}
 use Rattle.std.proofs.lemmas.Bool.{cases_lt}
 use Rattle.alg_core.specs.ExponentLists.{product}
 use Rattle.alg_core.specs.Lists.{In}
 use Rattle.poly_module.specs.GreatestExponents.{total}
 use Rattle.poly_module.proofs.GreatestValues.{take_map}
-use Rattle.lin_algebra.specs.declared.matrix.Matrix.{Matrix}
 use Rattle.lin_algebra.proofs.CutLaws.{listing}
 use Rattle.invariant_space.specs.declared.columns.Column.{Column}
-use Rattle.invariant_space.specs.Columns.{IsColumn}
 use Rattle.invariant_space.specs.Levels.{unit_exponents, reach, raised, IsLevel}
 use Rattle.invariant_space.proofs.MonomialDegrees.{total_constant, total_times, length_times}
 

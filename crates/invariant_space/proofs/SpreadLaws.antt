@@ -1,6 +1,5 @@
 -- The coefficients of a vector at a falling list of places that has all of its keys.
-use Rattle.std.proofs.Common.{◌≡◌, ◌≢◌, ℕ, zero, suc, ◌+◌, ◌<◌, ◌≤◌, ◌⊎◌, inl, inr, List, [], ◌∷◌, ◌++◌, length, map, get_or, take, drop, refl, sym, ap, ap₂, subst, ◌∙◌, arith, drop-cons, append_assoc}
-use Rattle.std.specs.Prelude.{All}
+use Rattle.std.proofs.Common.{◌≡◌, ℕ, zero, suc, ◌+◌, ◌<◌, ◌≤◌, inl, inr, List, [], ◌∷◌, ◌++◌, length, map, get_or, drop, refl, sym, ap, ap₂, subst, ◌∙◌, arith, drop-cons, append_assoc}
 use Rattle.std.specs.List.{AllByRecursion as Each}
 use Rattle.std.specs.declared.cmp.Ordering.{Ordering}
 use Rattle.std.specs.declared.cmp.Ordering.TheVariants.{Less, Equal, Greater}
@@ -8,12 +7,12 @@ use Rattle.std.proofs.lemmas.Cmp.{tied_itself}
 use Rattle.std.proofs.lemmas.List.{drop_all}
 use Rattle.std.proofs.lemmas.List.Elements.{All-from_recursion}
 use Rattle.alg_core.specs.RingLaws as rings
-use Rattle.alg_core.specs.Fields.{FieldOn, Has, Scalar, scalars, scalar, scalar_zero}
-use Rattle.alg_core.specs.CanonicalLists.{indicator_yes, indicator_no}
+use Rattle.alg_core.specs.Fields.{FieldOn, Has, scalars, scalar, scalar_zero}
+use Rattle.alg_core.specs.CanonicalLists.{indicator_yes}
 use Rattle.alg_core.specs.Keys.{Place, Key, key, key_same, key_injective}
-use Rattle.alg_core.specs.KeyOrders.{OrderOn, greater_less, less_irreflexive, less_asymmetric}
+use Rattle.alg_core.specs.KeyOrders.{greater_less, less_irreflexive, less_asymmetric}
 use Rattle.alg_core.specs.Lists.{In}
-use Rattle.alg_core.specs.Vectors.{Entry, Vect, vectors, vec, coef_at, plus}
+use Rattle.alg_core.specs.Vectors.{Entry, vec, coef_at}
 use Rattle.alg_core.specs.Spaces.{SpaceOver, place, entries, IsAbove, Fits}
 use Rattle.alg_core.specs.declared.term.Term.{Term}
 use Rattle.alg_core.specs.SpaceOrder.{key_order, key_compare_places}

@@ -1,7 +1,7 @@
 use Rattle.std.proofs.Common.{◌≡◌, ◌∙◌, ℕ, ap, refl, length, replicate, subst, sym, arith}
 use Rattle.std.proofs.lemmas.List.{length-replicate}
 use Rattle.alg_core.specs.Spaces.{over, IsPlace}
-use Rattle.invariant_space.proofs.Images.{Imaged, imaged_none, imaged_more, imaged_whole, constant_image, column_made}
+use Rattle.invariant_space.proofs.Images.{imaged_none, imaged_more, imaged_whole, constant_image}
 use Rattle.invariant_space.proofs.columns.constant.Goals as goal
 
 pub loop-generator-init : goal.loop-generator-init
@@ -11,7 +11,7 @@ pub loop-generator-preserved : goal.loop-generator-preserved
 loop-generator-preserved g c =
     let S = over g.F.Field.field g.O.TermOrder.order c.args.space.now in
     imaged_more S c.args.gens.now (replicate (length S.weights) 0) c.loop-generator._generator-index c.loop-generator.images.items c.push.new.self.items c._generator-item.result c.in_ok-constant_one.field-0 c.loop-generator-test.true c._generator-item.is c.in_ok-push.ensures.items
-        (constant_image S c._generator-item.result c.in_ok-constant_one.field-0 c.in_ok-constant_one.ensures.one) c.loop-generator.invariant
+    (constant_image S c._generator-item.result c.in_ok-constant_one.field-0 c.in_ok-constant_one.ensures.one) c.loop-generator.invariant
 
 pub constant_one-requires-clause-constants : goal.constant_one-requires-clause-constants
 constant_one-requires-clause-constants g c =
@@ -36,4 +36,4 @@ pub returns-clause-column : goal.returns-clause-column
 returns-clause-column g c =
     let S = over g.F.Field.field g.O.TermOrder.order c.args.space.now in
     imaged_whole S c.args.gens.now (replicate (length S.weights) 0) c.loop-generator._generator-index record { at = record { pos = 0; mono = c.in_ok-mono.mono }; images = c.loop-generator.images } c.requires.constants refl
-        (returns-clause-mono g c) (length-replicate (length S.weights) 0) c.loop-generator-test.false c.loop-generator.auto._generator-index-end c.loop-generator.invariant
+    (returns-clause-mono g c) (length-replicate (length S.weights) 0) c.loop-generator-test.false c.loop-generator.auto._generator-index-end c.loop-generator.invariant

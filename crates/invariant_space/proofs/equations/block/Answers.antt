@@ -1,6 +1,5 @@
-use Rattle.std.proofs.Common.{◌≡◌}
 use Rattle.alg_core.specs.Spaces.{over}
-use Rattle.invariant_space.specs.Columns.{IsColumnPlace, IsColumn}
+use Rattle.invariant_space.specs.Columns.{IsColumn}
 use Rattle.invariant_space.proofs.Images.{element, column_image}
 use Rattle.invariant_space.proofs.RowSteps.{element_there, element_read}
 use Rattle.invariant_space.proofs.BlockLaws.{block_none, block_more, block_whole}
@@ -22,7 +21,7 @@ pub loop-column-preserved : goal.loop-column-preserved
 loop-column-preserved g c = λ m e.
     let S = over g.F.Field.field g.O.TermOrder.order c.args.space.now in
     block_more S c.args.gens.now c.requires.monomials.0 c.args.columns.now c.args.i m c.loop-column.column-index c.column-item.result c.index.result.now c.loop-column.rows.items c.push.new.self.items c.in_ok-coordinates.field-0 c.requires.columns c.requires.monomials.1 c.requires.generator e
-        c.loop-column-test.true c.column-item.is c.index.ensures c.in_ok-coordinates.ensures.spread c.in_ok-push.ensures.items (c.loop-column.invariant m e)
+    c.loop-column-test.true c.column-item.is c.index.ensures c.in_ok-coordinates.ensures.spread c.in_ok-push.ensures.items (c.loop-column.invariant m e)
 
 pub returns : goal.returns
 returns g c = record { block = λ m e. block_whole (over g.F.Field.field g.O.TermOrder.order c.args.space.now) c.args.columns.now m c.loop-column.column-index _ c.loop-column-test.false c.loop-column.auto.column-index-end (c.loop-column.invariant m e) }

@@ -1,10 +1,10 @@
-use Rattle.std.proofs.Common.{◌≡◌, ◌∙◌, ◌++◌, ◌∷◌, ◌≤◌, ◌<◌, ◌+◌, refl, ℕ, List, Vec, Global, ap, drop, length, sym, subst, arith}
+use Rattle.std.proofs.Common.{◌≡◌, ◌∙◌, ◌∷◌, ◌≤◌, ◌<◌, ◌+◌, refl, ℕ, List, Vec, Global, ap, drop, length, sym, subst, arith}
 use Rattle.alg_core.specs.Spaces.{over, entries, Fits}
 use Rattle.alg_core.specs.declared.term.Term.{Term}
 use Rattle.invariant_space.specs.Columns.{places_of, IsColumnPlace}
 use Rattle.invariant_space.specs.Systems.{spread}
 use Rattle.invariant_space.proofs.Images.{element}
-use Rattle.invariant_space.proofs.SpreadLaws.{Walk, walk_start, walk_step, walk_end}
+use Rattle.invariant_space.proofs.SpreadLaws.{walk_start, walk_step, walk_end}
 use Rattle.invariant_space.proofs.equations.coordinates.Goals as goal
 use Rattle.invariant_space.proofs.equations.coordinates.Goals.{in-Some+in_ok-push-in-Some, in-None+in_ok-push-in-None}
 
@@ -33,18 +33,18 @@ loop-l-preserved g c =
     let l = c.loop-l.l in
     let column = c.index-columns-l.result in
     elim c.match-value_at.branch [
-      in-Some+in_ok-push-in-Some w ↦
+      | in-Some+in_ok-push-in-Some w ↦
           walk_step S terms c.args.columns.now c.loop-l.j c.match-value_at.j l column c.loop-l.row.items c.match-value_at.row.items w.in-Some.value c.loop-l-test.true c.index-columns-l.is
-              (ap (λ (v : Vec g.row.F-Elem.Denot Global). v.items) w.row-is ∙ w.in_ok-push-in-Some.ensures.items)
-              (value_low (w.in-Some.ensures.within refl) w.j-is)
-              (λ ps. w.in-Some.ensures.some ps ∙ ap (λ j. w.in-Some.value ∷ spread S (entries (λ m. m) (drop j terms)) ps) (sym w.j-is))
-              c.loop-l.invariant
-    | in-None+in_ok-push-in-None w ↦
+          (ap (λ (v : Vec g.row.F-Elem.Denot Global). v.items) w.row-is ∙ w.in_ok-push-in-Some.ensures.items)
+          (value_low (w.in-Some.ensures.within refl) w.j-is)
+          (λ ps. w.in-Some.ensures.some ps ∙ ap (λ j. w.in-Some.value ∷ spread S (entries (λ m. m) (drop j terms)) ps) (sym w.j-is))
+          c.loop-l.invariant
+      | in-None+in_ok-push-in-None w ↦
           walk_step S terms c.args.columns.now c.loop-l.j c.match-value_at.j l column c.loop-l.row.items c.match-value_at.row.items w.zero.result c.loop-l-test.true c.index-columns-l.is
-              (ap (λ (v : Vec g.row.F-Elem.Denot Global). v.items) w.row-is ∙ w.in_ok-push-in-None.ensures.items)
-              (subst (λ j. j ≤ length terms) (sym w.j-is) c.loop-l.invariant.within)
-              (λ ps. w.in-None.ensures.none ps ∙ ap (λ z. z ∷ spread S (entries (λ m. m) (drop c.loop-l.j terms)) ps) (sym w.zero.ensures.is) ∙ ap (λ j. w.zero.result ∷ spread S (entries (λ m. m) (drop j terms)) ps) (sym w.j-is))
-              c.loop-l.invariant
+          (ap (λ (v : Vec g.row.F-Elem.Denot Global). v.items) w.row-is ∙ w.in_ok-push-in-None.ensures.items)
+          (subst (λ j. j ≤ length terms) (sym w.j-is) c.loop-l.invariant.within)
+          (λ ps. w.in-None.ensures.none ps ∙ ap (λ z. z ∷ spread S (entries (λ m. m) (drop c.loop-l.j terms)) ps) (sym w.zero.ensures.is) ∙ ap (λ j. w.zero.result ∷ spread S (entries (λ m. m) (drop j terms)) ps) (sym w.j-is))
+          c.loop-l.invariant
     ]
 
 pub returns : goal.returns

@@ -1,8 +1,8 @@
-use Rattle.std.proofs.Common.{◌≡◌, ◌<◌, ◌+◌, ◌∙◌, ◌++◌, ◌∷◌, [], ap, length, map, sym, subst, arith}
+use Rattle.std.proofs.Common.{◌<◌, ◌∙◌, ◌++◌, ◌∷◌, [], ap, length, map, arith}
 use Rattle.alg_core.specs.Fields.{Has}
 use Rattle.lin_algebra.specs.Vectors.{IsRow}
 use Rattle.std.proofs.Common.{Vec, Global}
-use Rattle.invariant_space.proofs.EquationSteps.{Equation, equation_none, equation_at, equation_other, block_read, equation_row, member, row_has}
+use Rattle.invariant_space.proofs.EquationSteps.{equation_none, equation_at, equation_other, block_read, equation_row, member, row_has}
 use Rattle.invariant_space.proofs.equations.equation.Goals as goal
 use Rattle.invariant_space.proofs.equations.equation.Goals.{then-l-s, else-l-s}
 
@@ -20,9 +20,9 @@ loop-l-preserved g c =
     let has : Has k x = row_has k (length c.args.block.now) r.items c.args.s x is_row within c.index-entry.ensures in
     let read = block_read k c.args.block.now c.loop-l.l c.args.s r x c.loop-l-test.true c.index-block-l.is within c.index-entry.ensures in
     elim c.if-l-s.branch [
-      then-l-s w ↦ equation_at k rows c.args.s c.loop-l.l c.loop-l.row.items c.push.new.self.items x c.neg-minus_one.result w.add.result (c.in_ok-push.ensures.items ∙ ap (λ y. c.loop-l.row.items ++ y ∷ []) w.push-is) has w.if-l-s.true read
+      | then-l-s w ↦ equation_at k rows c.args.s c.loop-l.l c.loop-l.row.items c.push.new.self.items x c.neg-minus_one.result w.add.result (c.in_ok-push.ensures.items ∙ ap (λ y. c.loop-l.row.items ++ y ∷ []) w.push-is) has w.if-l-s.true read
           (c.neg-minus_one.ensures.is ∙ ap k.neg c.one.ensures.is) w.add.ensures.is c.loop-l.invariant
-    | else-l-s w ↦ equation_other k rows c.args.s c.loop-l.l c.loop-l.row.items c.push.new.self.items x (c.in_ok-push.ensures.items ∙ ap (λ y. c.loop-l.row.items ++ y ∷ []) w.push-is) has w.if-l-s.false read c.loop-l.invariant
+      | else-l-s w ↦ equation_other k rows c.args.s c.loop-l.l c.loop-l.row.items c.push.new.self.items x (c.in_ok-push.ensures.items ∙ ap (λ y. c.loop-l.row.items ++ y ∷ []) w.push-is) has w.if-l-s.false read c.loop-l.invariant
     ]
 
 pub returns-clause-row : goal.returns-clause-row

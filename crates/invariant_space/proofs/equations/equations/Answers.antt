@@ -1,4 +1,4 @@
-use Rattle.std.proofs.Common.{◌≡◌, ◌<◌, ◌+◌, ◌*◌, ◌∙◌, ap, length, subst, arith}
+use Rattle.std.proofs.Common.{◌≡◌, ◌+◌, ◌*◌, ap, length, subst, arith}
 use Rattle.alg_core.specs.Spaces.{over}
 use Rattle.invariant_space.specs.Systems.{IsSystem}
 use Rattle.invariant_space.proofs.RowSteps.{element_there, element_read}
@@ -29,8 +29,8 @@ loop-s-preserved g c =
     let m = element_there c.args.gens.now c.loop-i.i c.loop-i-test.true in
     let read = element_read c.args.gens.now c.loop-i.i c.loop-i-test.true in
     system_step S c.args.columns.now c.args.gens.now c.loop-i.i c.loop-s.s _ m c.in_ok-block.block.items c.deref.result.now c.in_ok-row.row.items c.deref-in-loop-s.result.now c.loop-s.cells.items c.extend_from_slice.new.self.items
-        c.requires.monomials.1.falls c.loop-i-test.true read c.deref.ensures.value (omega (arith, c.deref.ensures.len, c.len-s-end.ensures, c.loop-s-test.true)) (c.in_ok-block.ensures.block m read) c.in_ok-row.ensures.row c.in_ok-row.ensures.entry
-        c.in_ok-extend_from_slice.ensures.items c.deref-in-loop-s.ensures.value (omega arith) c.loop-s.invariant
+    c.requires.monomials.1.falls c.loop-i-test.true read c.deref.ensures.value (omega (arith, c.deref.ensures.len, c.len-s-end.ensures, c.loop-s-test.true)) (c.in_ok-block.ensures.block m read) c.in_ok-row.ensures.row c.in_ok-row.ensures.entry
+    c.in_ok-extend_from_slice.ensures.items c.deref-in-loop-s.ensures.value (omega arith) c.loop-s.invariant
 
 pub loop-i-preserved : goal.loop-i-preserved
 loop-i-preserved g c =
@@ -44,5 +44,7 @@ pub returns : goal.returns
 returns g c =
     let S = over g.F.Field.field g.O.TermOrder.order c.args.space.now in
     let all : c.loop-i.i ≡ length c.args.gens.now = omega (arith, c.loop-i-test.false, c.loop-i.auto.i-end) in
-    record { equations = system_whole S c.args.columns.now c.args.gens.now (c.loop-i.i * length c.args.columns.now) record { rows = c.in_ok-rows.rows; cols = length c.args.columns.now; cells = c.loop-i.cells } (omega arith)
-        (product_is _ c.checked_mul.result c.in_ok-rows.rows _ c.checked_mul.ensures c.in_ok-rows.ensures.ok_part) (ap (λ n. n * length c.args.columns.now) all) c.loop-i.invariant }
+    record {
+      equations = system_whole S c.args.columns.now c.args.gens.now (c.loop-i.i * length c.args.columns.now) record { rows = c.in_ok-rows.rows; cols = length c.args.columns.now; cells = c.loop-i.cells } (omega arith)
+          (product_is _ c.checked_mul.result c.in_ok-rows.rows _ c.checked_mul.ensures c.in_ok-rows.ensures.ok_part) (ap (λ n. n * length c.args.columns.now) all) c.loop-i.invariant;
+    }

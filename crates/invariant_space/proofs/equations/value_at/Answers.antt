@@ -1,5 +1,5 @@
 use Rattle.std.proofs.Common.{◌∙◌, ℕ, List, sym, arith}
-use Rattle.alg_core.specs.Spaces.{over, IsTerm}
+use Rattle.alg_core.specs.Spaces.{over}
 use Rattle.poly_module.proofs.EntryLists.{entry_at}
 use Rattle.invariant_space.proofs.SpreadLaws.{spread_taken, spread_left, spread_past}
 use Rattle.invariant_space.proofs.equations.value_at.Goals as goal

@@ -1,4 +1,4 @@
-use Rattle.std.proofs.Common.{◌≡◌, ◌++◌, ◌≤◌, All, map, length}
+use Rattle.std.proofs.Common.{◌≡◌, ◌++◌, All, map, length}
 use Rattle.alg_core.specs.ExponentLists.{product}
 use Rattle.alg_core.specs.Spaces.{over}
 use Rattle.lin_algebra.proofs.CutLaws.{listing}
