@@ -30,10 +30,10 @@ use Rattle.invariant_space.specs.declared.columns.Column.{Column}
 use Rattle.invariant_space.specs.Columns.{place_of, key_of, places_of, keys_of, IsImage, IsColumnPlace, IsColumn}
 use Rattle.invariant_space.specs.Equations.{Falls, IsMonomialList, IsEquations}
 use Rattle.invariant_space.specs.Systems.{spread, IsBlock, IsSystem}
-use Rattle.invariant_space.proofs.RowPolynomials.{element_in, coordinates_at, coordinates_single}
-use Rattle.invariant_space.proofs.RowSteps.{element_there, element_read}
+use Rattle.invariant_space.proofs.RowPolynomials.{element_at, element_in, coordinates_at, coordinates_single}
 use Rattle.invariant_space.proofs.MonomialDegrees.{of_exponents}
-use Rattle.invariant_space.proofs.Images.{element, column_image}
+use Rattle.invariant_space.proofs.Images.{column_image}
+use Rattle.invariant_space.proofs.ListLaws.{element}
 use Rattle.invariant_space.proofs.SpreadLaws.{spread_length, spread_has, spread_is}
 
 module _ {E : Type 0} (S : SpaceOver E) where
@@ -106,7 +106,7 @@ module _ {E : Type 0} (S : SpaceOver E) where
       v = act_by S.field m (single_vector S.field (key_of c))
 
       column : IsColumn S gens c
-      column = element S (IsColumn S gens) cs q c columns inside there
+      column = element (IsColumn S gens) cs q c columns inside there
 
       places : All (IsColumnPlace S) cs
       places i x w = (columns i x w).place
@@ -210,10 +210,10 @@ module _ {E : Type 0} (S : SpaceOver E) where
         entry = λ i s l m t u i_in s_in l_in read read_t read_u.
             let s_low : s < length cs = omega arith in
             let l_low : l < length cs = omega arith in
-            let b = element_there cs s s_low in
-            let c = element_there cs l l_low in
-            let at_b = element_read cs s s_low in
-            let at_c = element_read cs l l_low in
+            let b = (element_at cs s s_low).0 in
+            let c = (element_at cs l l_low).0 in
+            let at_b = sym (element_at cs s s_low).1 in
+            let at_c = sym (element_at cs l l_low).1 in
             let key_b : key_of b ≡ t = sym (get_or-map key_of cs s b t s_low ∙ ap key_of (sym at_b)) ∙ read_t in
             let key_c : key_of c ≡ u = sym (get_or-map key_of cs l c u l_low ∙ ap key_of (sym at_c)) ∙ read_u in
             let inside : i * length cs + s < q = (let r = cells_inside i (length gens) (length cs) s i_in s_low in omega arith) in

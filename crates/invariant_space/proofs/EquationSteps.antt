@@ -8,6 +8,7 @@ use Rattle.std.proofs.lemmas.List.Elements.{All-push}
 use Rattle.alg_core.specs.Fields.{FieldOn, Has, Scalar, scalars, scalar, scalar_add, scalar_neg, scalar_one}
 use Rattle.lin_algebra.specs.Vectors.{vector, unit, IsRow}
 use Rattle.lin_algebra.proofs.DotLaws.{unit_at, unit_other}
+use Rattle.invariant_space.proofs.ListLaws.{element}
 
 module _ {E : Type 0} (k : FieldOn E) where
   abbrev plus : Scalar k → Scalar k → Scalar k
@@ -59,8 +60,5 @@ module _ {E : Type 0} (k : FieldOn E) where
   pub equation_row : (rows : List (List E)) (s l n : ℕ) (row : List E) → n ≤ l → l ≤ n → Equation rows s l row → IsRow k n row
   equation_row rows s l n row past within h = let c = h.count in record { count = omega arith; has = h.has }
 
-  pub member : {A : Type 0} (P : A → Type 0) (l : List A) (i : ℕ) (x : A) → All P l → i < length l → x ≡ get_or l i x → P x
-  member P l i x all inside read = subst P (sym read) (all i x inside)
-
   pub row_has : (n : ℕ) (r : List E) (s : ℕ) (x : E) → IsRow k n r → s < length r → x ≡ get_or r s x → Has k x
-  row_has n r s x row within read = member (Has k) r s x row.has within read
+  row_has n r s x row within read = element (Has k) r s x row.has within read

@@ -156,10 +156,6 @@ module _ {E : Type 0} (S : SpaceOver E) where
           let matrix : x ≡ m = read ∙ get_or_default gens q x m inside ∙ ap (λ j. get_or gens j m) (sym same) ∙ e in
           subst (IsImage S (total a) (act_by S.field m (single_vector S.field (key (0, a))))) (sym (get_or_push images p [] i there)) (subst (λ y. IsImage S (total a) (act_by S.field y (single_vector S.field (key (0, a)))) p) matrix is)
 
-  -- what holds of all holds of an element
-  pub element : {A : Type 0} (P : A → Type 0) (l : List A) (i : ℕ) (x : A) → All P l → i < length l → x ≡ get_or l i x → P x
-  element P l i x all inside read = subst P (sym read) (all i x inside)
-
   -- the image of a column's monomial under one matrix
   pub column_image : (gens : List (Matrix E)) (c : Column E) (i : ℕ) (x : Matrix E) (p : Terms) → IsColumn S gens c → i < length gens → x ≡ get_or gens i x → p ≡ get_or c.images.items i p
       → IsImage S (total c.at.mono) (act_by S.field x (single_vector S.field (key (0, c.at.mono)))) p

@@ -1,9 +1,7 @@
 -- How all monomials of a degree come from those of the degree below.
-use Rattle.std.proofs.Common.{◌≡◌, ◌⊎◌, ℕ, zero, suc, ◌+◌, ◌-◌, ◌<◌, ◌≤◌, inl, inr, List, [], ◌∷◌, ◌++◌, length, map, get_or, take, drop, replicate, All, refl, sym, ap, ap₂, subst, ◌∙◌, arith, drop-cons, append_assoc}
+use Rattle.std.proofs.Common.{◌≡◌, ℕ, zero, suc, ◌+◌, ◌-◌, ◌<◌, ◌≤◌, inl, List, [], ◌∷◌, ◌++◌, length, map, get_or, take, drop, replicate, All, refl, sym, ap, ap₂, subst, ◌∙◌, arith, drop-cons, append_assoc}
 use Rattle.std.specs.List.{flat_map}
-use Rattle.std.proofs.lemmas.List.{drop_all, map-append, length-replicate, get_or-map, length-map}
-use Rattle.std.proofs.lemmas.List.Elements.{All-append, All-push}
-use Rattle.std.proofs.lemmas.Bool.{cases_lt}
+use Rattle.std.proofs.lemmas.List.{append-nil, drop_all, map-append, length-replicate, get_or-map, length-map}
 use Rattle.alg_core.specs.ExponentLists.{product}
 use Rattle.alg_core.specs.Lists.{In}
 use Rattle.poly_module.specs.GreatestExponents.{total}
@@ -11,6 +9,7 @@ use Rattle.poly_module.proofs.GreatestValues.{take_map}
 use Rattle.lin_algebra.proofs.CutLaws.{listing}
 use Rattle.invariant_space.specs.declared.columns.Column.{Column}
 use Rattle.invariant_space.specs.Levels.{unit_exponents, reach, raised, IsLevel}
+use Rattle.invariant_space.proofs.ListLaws.{in_flat, in_listing, all_flat, all_listing, flat_push}
 use Rattle.invariant_space.proofs.MonomialDegrees.{total_constant, total_times, length_times}
 
 -- past a variable that is not in it
@@ -65,44 +64,6 @@ lowered (zero ∷ b) d e =
     let r = lowered b d (omega arith) in
     record { below = 0 ∷ r.below; wide = ap suc r.wide; degree = omega (arith, r.degree); place = suc r.place; within = omega (arith, r.within); is = ap₂ ◌∷◌ (omega arith) r.is }
 
-in_left : {A : Type 0} (x : A) (l r : List A) → In x l → In x (l ++ r)
-in_left x [] r h = absurd h
-in_left x (y ∷ l) r (inl e) = inl e
-in_left x (y ∷ l) r (inr h) = inr (in_left x l r h)
-
-in_right : {A : Type 0} (x : A) (l r : List A) → In x r → In x (l ++ r)
-in_right x [] r h = h
-in_right x (y ∷ l) r h = inr (in_right x l r h)
-
-in_listing : {A : Type 0} (f : ℕ → A) (n i : ℕ) → i < n → In (f i) (listing f n)
-in_listing f zero i h = absurd (omega arith)
-in_listing f (suc n) i h = go (in_listing f n i) (cases_lt i n)
-  where
-    go : (i < n → In (f i) (listing f n)) → (i < n) ⊎ (n ≤ i) → In (f i) (listing f n ++ f n ∷ [])
-    go rest (inl b) = in_left (f i) (listing f n) (f n ∷ []) (rest b)
-    go rest (inr b) = let same : n ≡ i = omega arith in in_right (f i) (listing f n) (f n ∷ []) (inl (ap f same))
-
-in_flat : {A B : Type 0} (f : A → List B) (l : List A) (x : A) (y : B) → In x l → In y (f x) → In y (flat_map f l)
-in_flat f [] x y h g = absurd h
-in_flat f (z ∷ l) x y (inl e) g = in_left y (f z) (flat_map f l) (subst (λ w. In y (f w)) (sym e) g)
-in_flat f (z ∷ l) x y (inr h) g = in_right y (f z) (flat_map f l) (in_flat f l x y h g)
-
-all_listing : {A : Type 0} (P : A → Type 0) (f : ℕ → A) (n : ℕ) → ((i : ℕ) → i < n → P (f i)) → All P (listing f n)
-all_listing P f zero h = λ i d w. absurd (omega arith)
-all_listing P f (suc n) h = All-push P (listing f n) (f n) (all_listing P f n (λ i w. h i (omega arith))) (h n (omega arith))
-
-all_flat : {A B : Type 0} (P : B → Type 0) (f : A → List B) (l : List A) → All (λ a. All P (f a)) l → All P (flat_map f l)
-all_flat P f [] h = λ i d w. absurd (omega arith)
-all_flat P f (x ∷ l) h = All-append P (f x) (flat_map f l) (h 0 x (omega arith)) (all_flat P f l (λ i d w. h (suc i) d (omega arith)))
-
-flat_push : {A B : Type 0} (f : A → List B) (l : List A) (x : A) → flat_map f (l ++ x ∷ []) ≡ flat_map f l ++ f x
-flat_push f [] x = append_nil (f x)
-  where
-    append_nil : {B : Type 0} (l : List B) → l ++ [] ≡ l
-    append_nil [] = refl
-    append_nil (y ∷ l) = ap (λ m. y ∷ m) (append_nil l)
-flat_push f (y ∷ l) x = ap (λ m. f y ++ m) (flat_push f l x) ∙ sym (append_assoc (f y) (flat_map f l) (f x))
-
 -- the monomial 1 is the only one of degree 0
 zeros_only : (a : List ℕ) → total a ≡ 0 → a ≡ replicate (length a) 0
 zeros_only [] e = refl
@@ -134,11 +95,7 @@ module _ {E : Type 0} where
   monomial c = c.at.mono
 
   pub products_none : (l : List (Column E)) (a : List ℕ) → map (λ c. c.at.mono) l ≡ map (λ c. c.at.mono) l ++ listing (λ i. product a (unit_exponents (length a) i)) 0
-  products_none l a = sym (append_nil (map monomial l))
-    where
-      append_nil : {B : Type 0} (l : List B) → l ++ [] ≡ l
-      append_nil [] = refl
-      append_nil (y ∷ l) = ap (λ m. y ∷ m) (append_nil l)
+  products_none l a = sym (append-nil (map monomial l))
 
   -- one product more
   pub products_more : (old above new : List (Column E)) (a : List ℕ) (i n : ℕ) (x : Column E) → new ≡ above ++ x ∷ [] → x.at.mono ≡ product a (unit_exponents n i) → length a ≡ n

@@ -3,6 +3,7 @@ pub mod EchelonRows
 pub mod InvariantEquations
 pub mod EchelonBasis
 pub mod BinomialLaws
+pub mod ListLaws
 pub mod LevelLaws
 pub mod MonomialDegrees
 pub mod Images

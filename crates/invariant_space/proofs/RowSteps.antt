@@ -1,5 +1,5 @@
 -- The polynomial of a row of coefficients, term by term.
-use Rattle.std.proofs.Common.{◌≡◌, ℕ, zero, suc, ◌+◌, ◌<◌, ◌≤◌, List, [], ◌∷◌, ◌++◌, length, map, get_or, take, refl, sym, ap, ap₂, subst, ◌∙◌, arith}
+use Rattle.std.proofs.Common.{◌≡◌, ℕ, suc, ◌+◌, ◌<◌, ◌≤◌, List, [], ◌∷◌, ◌++◌, length, map, get_or, take, refl, sym, ap, ap₂, subst, ◌∙◌, arith}
 use Rattle.std.specs.Prelude.{All}
 use Rattle.std.proofs.lemmas.List.{map-append, take_all, length-map, get_or_read, take_more, length-take-le}
 use Rattle.alg_core.specs.Fields.{FieldOn, Has, Scalar, scalars, scalar, scalar_zero}
@@ -16,6 +16,7 @@ use Rattle.lin_algebra.specs.declared.matrix.Matrix.{Matrix}
 use Rattle.lin_algebra.specs.Matrices.{rows_of, vectors_of, entries as cells_of}
 use Rattle.lin_algebra.specs.Vectors.{vector}
 use Rattle.lin_algebra.proofs.CutLaws.{listing, vectors_of_listing}
+use Rattle.invariant_space.proofs.ListLaws.{map_listing}
 use Rattle.invariant_space.specs.declared.columns.Column.{Column}
 use Rattle.invariant_space.specs.Columns.{place_of, key_of, keys_of, IsPolynomialOf, IsColumnPlace}
 use Rattle.invariant_space.specs.Equations.{row_polynomial}
@@ -25,18 +26,6 @@ module _ {E : Type 0} (k : FieldOn E) where
   row_push : (ts : List Key) (t : Key) (w : ℕ → Scalar k) → row_polynomial k (ts ++ t ∷ []) w ≡ plus k (row_polynomial k ts w) ((vectors k).◌·◌ (w (length ts)) (single_vector k t))
   row_push [] t w = plus_zero k _ ∙ sym (zero_plus k _)
   row_push (s ∷ ts) t w = ap (plus k ((vectors k).◌·◌ (w 0) (single_vector k s))) (row_push ts t (λ l. w (suc l))) ∙ sym (plus_assoc k _ _ _)
-
--- the element at a place
-pub element_there : {A : Type 0} (l : List A) (i : ℕ) → i < length l → A
-element_there [] i h = absurd (omega arith)
-element_there (x ∷ l) zero h = x
-element_there (x ∷ l) (suc i) h = element_there l i (omega arith)
-
-pub element_read : {A : Type 0} (l : List A) (i : ℕ) (h : i < length l) → element_there l i h ≡ get_or l i (element_there l i h)
-unfolding element_there
-element_read [] i h = absurd (omega arith)
-element_read (x ∷ l) zero h = refl
-element_read (x ∷ l) (suc i) h = element_read l i (omega arith)
 
 module _ {E : Type 0} (S : SpaceOver E) where
   abbrev Terms : Type 0
@@ -126,10 +115,6 @@ module _ {E : Type 0} (S : SpaceOver E) where
         first = All-push (λ p. All (λ e. e.0.0 ≡ 0) (entries (λ m. m) p)) ps p was.first is.positions;
         are = map-append g ps (p ∷ []) ∙ ap₂ (λ l v. l ++ v ∷ []) was.are (is.is ∙ ap (λ r. row_polynomial S.field (keys_of cs) (vector S.field r)) read) ∙ ap (listing f) next;
       }
-
-  map_listing : {A B : Type 0} (f : A → B) (g : ℕ → A) (n : ℕ) → map f (listing g n) ≡ listing (λ i. f (g i)) n
-  map_listing f g zero = refl
-  map_listing f g (suc n) = map-append f (listing g n) (g n ∷ []) ∙ ap (λ l. l ++ f (g n) ∷ []) (map_listing f g n)
 
   pub rows_whole : (cs : List (Column E)) (a : Matrix E) (i : ℕ) (ps : List Terms) → i ≡ a.rows → Rows cs a i ps → map (λ p. vec S.field (entries (λ m. m) p)) ps ≡ map (row_polynomial S.field (keys_of cs)) (vectors_of S.field a)
   rows_whole cs a i ps all rows =

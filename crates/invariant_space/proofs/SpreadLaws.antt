@@ -4,7 +4,7 @@ use Rattle.std.specs.List.{AllByRecursion as Each}
 use Rattle.std.specs.declared.cmp.Ordering.{Ordering}
 use Rattle.std.specs.declared.cmp.Ordering.TheVariants.{Less, Equal, Greater}
 use Rattle.std.proofs.lemmas.Cmp.{tied_itself}
-use Rattle.std.proofs.lemmas.List.{drop_all}
+use Rattle.std.proofs.lemmas.List.{append-nil, drop_all}
 use Rattle.std.proofs.lemmas.List.Elements.{All-from_recursion}
 use Rattle.alg_core.specs.RingLaws as rings
 use Rattle.alg_core.specs.Fields.{FieldOn, Has, scalars, scalar, scalar_zero}
@@ -188,13 +188,9 @@ module _ {E : Type 0} (S : SpaceOver E) where
       → row ++ spread S (entries (λ m. m) (drop j terms)) (places_of (drop l cs)) ≡ spread S (entries (λ m. m) terms) (places_of cs) → row ≡ spread S (entries (λ m. m) terms) (places_of cs)
   spread_end terms cs j l row past was = sym (nothing (terms_at terms j)) ∙ ap (λ m. row ++ spread S (terms_at terms j) (places_of m)) (sym (drop_all l cs past)) ∙ was
     where
-      append_nil : {B : Type 0} (l : List B) → l ++ [] ≡ l
-      append_nil [] = refl
-      append_nil (y ∷ l) = ap (λ m. y ∷ m) (append_nil l)
-
       nothing : (es : List (Entry E)) → row ++ spread S es [] ≡ row
-      nothing [] = append_nil row
-      nothing (e ∷ es) = append_nil row
+      nothing [] = append-nil row
+      nothing (e ∷ es) = append-nil row
 
   -- so far the values at the first l columns, and j of the terms are met
   pub record Walk (terms : List (Term E (List ℕ))) (cs : List (Column E)) (j l : ℕ) (row : List E) : Type 0 where

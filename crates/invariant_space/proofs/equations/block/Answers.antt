@@ -1,8 +1,10 @@
+use Rattle.std.proofs.Common.{sym}
 use Rattle.alg_core.specs.Spaces.{over}
 use Rattle.invariant_space.specs.Columns.{IsColumn}
-use Rattle.invariant_space.proofs.Images.{element, column_image}
-use Rattle.invariant_space.proofs.RowSteps.{element_there, element_read}
+use Rattle.invariant_space.proofs.Images.{column_image}
+use Rattle.invariant_space.proofs.RowPolynomials.{element_at}
 use Rattle.invariant_space.proofs.BlockLaws.{block_none, block_more, block_whole}
+use Rattle.invariant_space.proofs.ListLaws.{element}
 use Rattle.invariant_space.proofs.equations.block.Goals as goal
 
 pub loop-column-init : goal.loop-column-init
@@ -14,8 +16,8 @@ coordinates-requires-clause-places g c = λ k d w. (c.requires.columns k d w).pl
 pub coordinates-requires-clause-fits : goal.coordinates-requires-clause-fits
 coordinates-requires-clause-fits g c =
     let S = over g.F.Field.field g.O.TermOrder.order c.args.space.now in
-    (column_image S c.args.gens.now c.column-item.result c.args.i (element_there c.args.gens.now c.args.i c.requires.generator) c.index.result.now
-    (element S (IsColumn S c.args.gens.now) c.args.columns.now c.loop-column.column-index c.column-item.result c.requires.columns c.loop-column-test.true c.column-item.is) c.requires.generator (element_read c.args.gens.now c.args.i c.requires.generator) c.index.ensures).polynomial.fits
+    (column_image S c.args.gens.now c.column-item.result c.args.i (element_at c.args.gens.now c.args.i c.requires.generator).0 c.index.result.now
+    (element (IsColumn S c.args.gens.now) c.args.columns.now c.loop-column.column-index c.column-item.result c.requires.columns c.loop-column-test.true c.column-item.is) c.requires.generator (sym (element_at c.args.gens.now c.args.i c.requires.generator).1) c.index.ensures).polynomial.fits
 
 pub loop-column-preserved : goal.loop-column-preserved
 loop-column-preserved g c = λ m e.

@@ -3,8 +3,8 @@ use Rattle.alg_core.specs.Spaces.{over, entries, Fits}
 use Rattle.alg_core.specs.declared.term.Term.{Term}
 use Rattle.invariant_space.specs.Columns.{places_of, IsColumnPlace}
 use Rattle.invariant_space.specs.Systems.{spread}
-use Rattle.invariant_space.proofs.Images.{element}
 use Rattle.invariant_space.proofs.SpreadLaws.{walk_start, walk_step, walk_end}
+use Rattle.invariant_space.proofs.ListLaws.{element}
 use Rattle.invariant_space.proofs.equations.coordinates.Goals as goal
 use Rattle.invariant_space.proofs.equations.coordinates.Goals.{in-Some+in_ok-push-in-Some, in-None+in_ok-push-in-None}
 
@@ -19,7 +19,7 @@ loop-l-init g c =
 pub value_at-requires-clause-place : goal.value_at-requires-clause-place
 value_at-requires-clause-place g c =
     let S = over g.F.Field.field g.O.TermOrder.order c.args.space.now in
-    (element S (IsColumnPlace S) c.args.columns.now c.loop-l.l c.index-columns-l.result c.requires.places c.loop-l-test.true c.index-columns-l.is).place
+    (element (IsColumnPlace S) c.args.columns.now c.loop-l.l c.index-columns-l.result c.requires.places c.loop-l-test.true c.index-columns-l.is).place
 
 pub value_at-requires-clause-fits : goal.value_at-requires-clause-fits
 value_at-requires-clause-fits g c =

@@ -2,7 +2,8 @@ use Rattle.std.proofs.Common.{◌<◌, ◌∙◌, ◌++◌, ◌∷◌, [], ap, l
 use Rattle.alg_core.specs.Fields.{Has}
 use Rattle.lin_algebra.specs.Vectors.{IsRow}
 use Rattle.std.proofs.Common.{Vec, Global}
-use Rattle.invariant_space.proofs.EquationSteps.{equation_none, equation_at, equation_other, block_read, equation_row, member, row_has}
+use Rattle.invariant_space.proofs.EquationSteps.{equation_none, equation_at, equation_other, block_read, equation_row, row_has}
+use Rattle.invariant_space.proofs.ListLaws.{element}
 use Rattle.invariant_space.proofs.equations.equation.Goals as goal
 use Rattle.invariant_space.proofs.equations.equation.Goals.{then-l-s, else-l-s}
 
@@ -15,7 +16,7 @@ loop-l-preserved g c =
     let rows = map (λ (r : Vec g.row.F-Elem.Denot Global). r.items) c.args.block.now in
     let r = c.index-block-l.result in
     let x = c.index-entry.result.now in
-    let is_row : IsRow k (length c.args.block.now) r.items = member k (λ (r : Vec g.row.F-Elem.Denot Global). IsRow k (length c.args.block.now) r.items) c.args.block.now c.loop-l.l r c.requires.rows c.loop-l-test.true c.index-block-l.is in
+    let is_row : IsRow k (length c.args.block.now) r.items = element (λ (r : Vec g.row.F-Elem.Denot Global). IsRow k (length c.args.block.now) r.items) c.args.block.now c.loop-l.l r c.requires.rows c.loop-l-test.true c.index-block-l.is in
     let within : c.args.s < length r.items = omega (arith, c.requires.row, is_row.count) in
     let has : Has k x = row_has k (length c.args.block.now) r.items c.args.s x is_row within c.index-entry.ensures in
     let read = block_read k c.args.block.now c.loop-l.l c.args.s r x c.loop-l-test.true c.index-block-l.is within c.index-entry.ensures in

@@ -1,8 +1,8 @@
 use Rattle.std.proofs.Common.{◌∙◌, ap, refl, sym, arith}
 use Rattle.alg_core.specs.Spaces.{over}
 use Rattle.invariant_space.specs.Columns.{place_of, IsColumnPlace}
-use Rattle.invariant_space.proofs.Images.{element}
 use Rattle.invariant_space.proofs.InsertionLaws.{place_less, place_equal, place_greater, place_end}
+use Rattle.invariant_space.proofs.ListLaws.{element}
 use Rattle.invariant_space.proofs.sorted.place.Goals as goal
 
 pub loop-j-init : goal.loop-j-init
@@ -14,7 +14,7 @@ compare-requires-clause-left g c = c.requires.place.fits
 pub compare-requires-clause-right : goal.compare-requires-clause-right
 compare-requires-clause-right g c =
     let S = over g.F.Field.field g.O.TermOrder.order c.args.space.now in
-    (element S (IsColumnPlace S) c.args.sorted.now c.loop-j.j c.index-sorted-j.result c.requires.places c.loop-j-test.true c.index-sorted-j.is).place.fits
+    (element (IsColumnPlace S) c.args.sorted.now c.loop-j.j c.index-sorted-j.result c.requires.places c.loop-j-test.true c.index-sorted-j.is).place.fits
 
 pub loop-j-preserved : goal.loop-j-preserved
 loop-j-preserved g c = λ x e.
