@@ -1,9 +1,10 @@
-pub mod Commands
-pub mod Monomials
 pub mod Numerals
-pub mod Outcomes
-pub mod Outputs
+pub mod Commands
+pub mod WordReading
+pub mod ThinScripts
 pub mod Reading
 pub mod Refusals
-pub mod Rows
-pub mod ThinScripts
+pub mod Outputs
+pub mod Bases
+pub mod Outcomes
+pub mod ErrorLines

@@ -2,10 +2,13 @@
 #![tactic(auto)]
 
 mod answer;
+mod arguments;
 mod basis;
 mod cells;
-mod count;
+mod digits;
+mod error_line;
 mod fault;
+mod given;
 mod names;
 mod number;
 mod parts;
@@ -14,8 +17,10 @@ mod status;
 mod top_call;
 mod words;
 
+pub use error_line::write_error;
 pub use status::{BoundFault, Status};
 pub use top_call::run;
+pub use words::{Command, Request, words_ask_once};
 
 #[cfg(test)]
 mod tests;
