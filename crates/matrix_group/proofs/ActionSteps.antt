@@ -1,4 +1,4 @@
--- Steps of the computation of an image: variables and linear forms as lists of terms, and the list of the images.
+-- Steps of the computation of an image: cells of a matrix, and variables and linear forms as lists of terms.
 use Rattle.std.proofs.Common.{◌≡◌, ℕ, zero, suc, ◌+◌, ◌*◌, ◌<◌, ◌≤◌, List, [], ◌∷◌, ◌++◌, length, get_or, replicate, slice_set, refl, sym, ap, ap₂, subst, ◌∙◌, arith}
 use Rattle.std.proofs.lemmas.List.{map-append, get_or-take, get_or-drop, get_or_default}
 use Rattle.alg_core.specs.Fields.{FieldOn, Has, Scalar, scalars, scalar, scalar_one}

@@ -1,9 +1,7 @@
 -- Whether a polynomial is fixed, from the difference of its image and itself; and by all of a list of matrices.
-use Rattle.std.proofs.Common.{◌≡◌, ◌↔◌, ℕ, ◌+◌, ◌<◌, ◌≤◌, ◌⊎◌, inl, inr, List, [], ◌∷◌, length, get_or, nat_eq, refl, sym, ap, subst, ◌∙◌, arith}
-use Rattle.std.specs.Prelude.{All, IsTrue}
-use Rattle.std.proofs.lemmas.Bool.{cases_lt}
+use Rattle.std.proofs.Common.{◌≡◌, ◌↔◌, ℕ, ◌<◌, List, [], ◌∷◌, length, get_or, nat_eq, refl, sym, ap, ◌∙◌, arith}
+use Rattle.std.specs.Prelude.{IsTrue}
 use Rattle.std.proofs.lemmas.Bool.Decides.{nat_tests}
-use Rattle.std.proofs.lemmas.List.{get_or_default}
 use Rattle.alg_core.specs.ModuleLaws as modules
 use Rattle.alg_core.specs.Vectors.{Vect, vectors, vec, plus, zero_vector}
 use Rattle.alg_core.specs.declared.term.Term.{Term}
@@ -35,18 +33,3 @@ module _ {A : Type 0} (P : A → Type 0) (l : List A) where
   -- the first members
   abbrev pub FirstHave : ℕ → Type 0
   FirstHave i = (j : ℕ) (d : A) → j < i → P (get_or l j d)
-
-  pub first_none : FirstHave 0
-  first_none j d w = absurd (omega arith)
-
-  -- one member more
-  pub first_more : (i : ℕ) (x : A) → i < length l → x ≡ get_or l i x → FirstHave i → P x → FirstHave (i + 1)
-  first_more i x inside read before here j d w = go (cases_lt j i)
-    where
-      go : (j < i) ⊎ (i ≤ j) → P (get_or l j d)
-      go (inl b) = before j d b
-      go (inr b) = let same : i ≡ j = omega arith in subst (λ n. P (get_or l n d)) same (subst P (read ∙ get_or_default l i x d inside) here)
-
-  -- all of them
-  pub first_all : (i : ℕ) → length l ≤ i → FirstHave i → All P l
-  first_all i past before j d w = before j d (omega arith)

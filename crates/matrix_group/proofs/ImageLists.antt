@@ -48,6 +48,14 @@ all_at_push P l x all here i d w = go (cases_lt i (length l))
         let same : length l ≡ i = omega arith in
         subst (P i) (sym (get_or_push l x d i same)) (subst (λ j. P j x) same here)
 
+module _ {E : Type 0} (S : SpaceOver E) where
+  -- the entries of a polynomial of the space
+  pub fits_has : (f : List (Term E (List ℕ))) → Fits S (entries (λ a. a) f) → All (λ e. Has S.field e.1) (entries (λ a. a) f)
+  fits_has f fits i d w = (fits_terms S (λ a. a) f fits i d w).has
+
+  pub fits_wide : (f : List (Term E (List ℕ))) (n : ℕ) → n ≡ length S.weights → Fits S (entries (λ a. a) f) → All (λ e. length e.0.1 ≡ n) (entries (λ a. a) f)
+  fits_wide f n e fits i d w = (fits_terms S (λ a. a) f fits i d w).place.wide ∙ sym e
+
 module _ {E : Type 0} (S : SpaceOver E) (m : Matrix E) where
   abbrev Terms : Type 0
   Terms = List (Term E (List ℕ))
@@ -105,13 +113,6 @@ module _ {E : Type 0} (S : SpaceOver E) (m : Matrix E) where
 
   pub images_small : (cap : ℕ) (es : List (Entry E)) (images : List Terms) → AreImages images → All (λ e. total e.0.1 ≤ cap) es → All (λ e. total e.0.1 * highest (map (entries (λ a. a)) images) ≤ cap) es
   images_small cap es images are few i d w = small_product (total (get_or es i d).0.1) (highest (map (entries (λ a. a)) images)) cap (few i d w) (highest_bounded images (image_keys (Bounded 1) image_bounded images are))
-
-  -- the entries of a polynomial of the space
-  pub fits_has : (f : Terms) → Fits S (listed f) → All (λ e. Has S.field e.1) (listed f)
-  fits_has f fits i d w = (fits_terms S (λ a. a) f fits i d w).has
-
-  pub fits_wide : (f : Terms) (n : ℕ) → n ≡ length S.weights → Fits S (listed f) → All (λ e. length e.0.1 ≡ n) (listed f)
-  fits_wide f n e fits i d w = (fits_terms S (λ a. a) f fits i d w).place.wide ∙ sym e
 
   -- the value at the images is the image
   values_image : (images : List Terms) (i : ℕ) → i < length images → (d : Terms) → image_of (vector_ring S.field) (values S (λ a. a) images) i ≡ vec S.field (listed (get_or images i d))

@@ -8,3 +8,6 @@ mod laws;
 pub use action::{act, row_form};
 pub use invariance::is_invariant;
 pub use laws::{actions, invariants};
+
+#[cfg(test)]
+mod tests;

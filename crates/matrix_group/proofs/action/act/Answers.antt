@@ -20,7 +20,7 @@ loop-i-preserved g c =
     }
 
 pub substitute-requires-clause-coefficients : goal.substitute-requires-clause-coefficients
-substitute-requires-clause-coefficients g c = fits_has (over g.F.Field.field g.O.TermOrder.order c.args.space.now) c.args.m.now c.args.f.now c.requires.fits
+substitute-requires-clause-coefficients g c = fits_has (over g.F.Field.field g.O.TermOrder.order c.args.space.now) c.args.f.now c.requires.fits
 
 pub substitute-requires-clause-variables : goal.substitute-requires-clause-variables
 substitute-requires-clause-variables g c =
@@ -28,7 +28,7 @@ substitute-requires-clause-variables g c =
     let whole = c.args.space.now.grading.weights.ok.0 in
     let listed : length c.as_slice.result.now ≡ length c.loop-i.images.items = ap length c.as_slice.ensures.value in
     let count = c.loop-i.invariant.count in
-    fits_wide S c.args.m.now c.args.f.now (length c.as_slice.result.now) (omega arith) c.requires.fits
+    fits_wide S c.args.f.now (length c.as_slice.result.now) (omega arith) c.requires.fits
 
 pub substitute-requires-clause-polynomials : goal.substitute-requires-clause-polynomials
 substitute-requires-clause-polynomials g c =

@@ -26,3 +26,8 @@ loop-j-preserved g c =
       form = form_step S.field (λ (m : List ℕ). m) c.loop-j.terms.items _ term c.index-coef.result.now (cells_of S.field c.args.m.now c.args.i) c.loop-j.j c.in_ok-push.ensures.items c.loop-j.invariant.form same c.in_ok-variable_term.ensures.variable
           (cell_entry S.field c.args.m.now c.requires.square c.args.m.now.rows c.args.i c.loop-j.j c.index-coef.result.now refl c.requires.row c.loop-j-test.true c.index-coef.ensures);
     }
+
+pub make-requires : goal.make-requires
+make-requires g c =
+    let S = over g.F.Field.field g.O.TermOrder.order c.args.space.now in
+    record { given = subst (λ l. All (λ e. Has S.field e.1 × IsPlace S e.0) (entries (λ (m : List ℕ). m) l)) (sym c.as_slice.ensures.value) c.loop-j.invariant.given }
