@@ -63,8 +63,8 @@ fn single_variable<F: Field, O: TermOrder>(
     Ok(single)
 }
 
-/// The linear form with the coefficients in row i.
-fn row_form<F: Field, O: TermOrder>(
+/// The linear form with the coefficients in row i, from 0: what is put for variable i.
+pub fn row_form<F: Field, O: TermOrder>(
     alloc: Global,
     space: &Space<F, O>,
     m: &Matrix<F::Elem>,

@@ -5,7 +5,7 @@ mod action;
 mod invariance;
 mod laws;
 
-pub use action::act;
+pub use action::{act, row_form};
 pub use invariance::is_invariant;
 pub use laws::{actions, invariants};
 
