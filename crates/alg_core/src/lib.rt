@@ -6,6 +6,7 @@ mod dp;
 mod elimination_order;
 mod exponents;
 mod field;
+mod input_fault;
 mod laws;
 mod limits;
 mod memory;
@@ -18,6 +19,7 @@ mod space;
 mod term;
 #[cfg(test)]
 mod tests;
+mod value_kind;
 mod zero;
 
 pub use block_order::BlockOrder;
@@ -25,6 +27,7 @@ pub use dp::Dp;
 pub use elimination_order::ElimOrder;
 pub use exponents::weighted_degree;
 pub use field::Field;
+pub use input_fault::InputFault;
 pub use laws::{
     common_multiples, finite_degrees, fitting_lists, linear_functions, vector_sums, vector_terms,
     vectors_are_maps,
@@ -38,4 +41,5 @@ pub use order::TermOrder;
 pub use place::Place;
 pub use space::{Grading, Space};
 pub use term::{ModTerm, Term};
+pub use value_kind::ValueKind;
 pub use zero::is_zero;

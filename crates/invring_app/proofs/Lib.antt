@@ -1,4 +1,3 @@
-pub mod BinomialLaws
 pub mod CommandLaws
 pub mod Fronts
 pub mod NameLaws
@@ -7,3 +6,4 @@ pub mod PartLaws
 pub mod RefusalLaws
 pub mod RunLaws
 pub mod ScriptLaws
+pub mod BasisLaws

@@ -1,9 +1,8 @@
-pub mod Commands
-pub mod Monomials
 pub mod Numerals
-pub mod Outcomes
-pub mod Outputs
+pub mod Commands
+pub mod ThinScripts
 pub mod Reading
 pub mod Refusals
-pub mod Rows
-pub mod ThinScripts
+pub mod Outputs
+pub mod Bases
+pub mod Outcomes

@@ -4,7 +4,6 @@
 mod answer;
 mod basis;
 mod cells;
-mod count;
 mod fault;
 mod names;
 mod number;

@@ -63,7 +63,7 @@ fn single_variable<F: Field, O: TermOrder>(
     Ok(single)
 }
 
-/// The linear form with the coefficients in row i: what is put for variable i.
+/// The linear form with the coefficients in row i, from 0: what is put for variable i.
 pub fn row_form<F: Field, O: TermOrder>(
     alloc: Global,
     space: &Space<F, O>,

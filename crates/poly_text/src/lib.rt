@@ -1,13 +1,24 @@
-// A library with one function.
+//! Polynomial texts: one text for each polynomial, read exactly, and each fault the first one.
 #![tactic(auto)]
 
-ghost use Rattle.std.specs.Prelude.{◌≡◌};
-ghost use Rattle.poly_text.specs.Echo.{echo_of};
+mod combinations;
+mod factors;
+mod fault;
+mod laws;
+mod names;
+mod print;
+#[cfg(test)]
+mod print_tests;
+mod read;
+#[cfg(test)]
+mod read_tests;
+mod scan;
+mod syntax;
+mod values;
 
-// The `ensures` clause is the contract: what `echo` returns is `echo_of` of its argument, a definition
-// in `specs/Echo.antt`, which a caller's clause can cite too.
-pub fn echo(x: usize) -> usize
-    ensures { result ≡ echo_of x }
-{
-    x
-}
+pub use combinations::print_comb;
+pub use fault::TextFault;
+pub use laws::{printed_texts, trees_of_texts};
+pub use names::Names;
+pub use print::print_poly;
+pub use read::read_poly;
