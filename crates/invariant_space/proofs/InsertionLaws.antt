@@ -14,7 +14,7 @@ use Rattle.alg_core.specs.Spaces.{SpaceOver}
 use Rattle.alg_core.specs.SpaceOrder.{key_order, key_compare_places}
 use Rattle.poly_module.specs.GreatestExponents.{total}
 use Rattle.lin_algebra.specs.declared.matrix.Matrix.{Matrix}
-use Rattle.lin_algebra.proofs.EachLaws.{Each_weaker}
+use Rattle.lin_algebra.proofs.EachLaws.{Each_weaker, Each_append_left, Each_append_right}
 use Rattle.invariant_space.specs.declared.columns.Column.{Column}
 use Rattle.invariant_space.specs.Columns.{place_of, key_of, keys_of, IsColumnPlace, IsColumn}
 use Rattle.invariant_space.specs.InvariantSpaces.{IsOfDegree}
@@ -124,9 +124,9 @@ module _ {E : Type 0} (S : SpaceOver E) where
   pub sorting_columns : (gens : List (Matrix E)) (d : ℕ) (left sorted : List (Column E)) → Sorting gens d left sorted → All (IsColumn S gens) sorted
   sorting_columns gens d left sorted h = All-from_recursion (IsColumn S gens) sorted (Each_weaker (λ c. IsColumn S gens c × (total c.at.mono ≡ d)) (IsColumn S gens) (λ c p. p.0) sorted h.sorted_are)
 
-  -- the first that is left
-  pub sorting_next : (gens : List (Matrix E)) (d : ℕ) (left rest sorted : List (Column E)) (c : Column E) → left ≡ c ∷ rest → Sorting gens d left sorted → IsColumnPlace S c
-  sorting_next gens d left rest sorted c first h = (subst (Each (λ c. IsColumn S gens c × (total c.at.mono ≡ d))) first h.left_are).0.0.place
+  -- the last that is left
+  pub sorting_next : (gens : List (Matrix E)) (d : ℕ) (left rest sorted : List (Column E)) (c : Column E) → left ≡ rest ++ c ∷ [] → Sorting gens d left sorted → IsColumnPlace S c
+  sorting_next gens d left rest sorted c last h = (Each_append_right (λ c. IsColumn S gens c × (total c.at.mono ≡ d)) rest (c ∷ []) (subst (Each (λ c. IsColumn S gens c × (total c.at.mono ≡ d))) last h.left_are)).0.0.place
 
   pub sorting_start : (gens : List (Matrix E)) (d : ℕ) (level left sorted : List (Column E)) → left ≡ level → sorted ≡ [] → All (IsColumn S gens) level → IsLevel (length S.weights) d (map (λ c. c.at.mono) level) → Sorting gens d left sorted
   sorting_start gens d level left sorted same none columns h = subst (λ l. Sorting gens d l sorted) (sym same) (subst (Sorting gens d level) (sym none) (record {
@@ -141,20 +141,27 @@ module _ {E : Type 0} (S : SpaceOver E) where
           let there : i < length (map (λ (c : Column E). c.at.mono) level) = (let l = length-map level (λ (c : Column E). c.at.mono) in omega arith) in
           ap total (sym (get_or-map (λ (c : Column E). c.at.mono) level i c c.at.mono w)) ∙ (h.each i c.at.mono there).1
 
-  pub sorting_more : (gens : List (Matrix E)) (d : ℕ) (left rest sorted new : List (Column E)) (c : Column E) → left ≡ c ∷ rest → new ≡ inserted S.order c sorted → Sorting gens d left sorted → Sorting gens d rest new
-  sorting_more gens d left rest sorted new c first is h =
-      let are = subst (Each (λ c. IsColumn S gens c × (total c.at.mono ≡ d))) first h.left_are in
+  pub sorting_more : (gens : List (Matrix E)) (d : ℕ) (left rest sorted new : List (Column E)) (c : Column E) → left ≡ rest ++ c ∷ [] → new ≡ inserted S.order c sorted → Sorting gens d left sorted → Sorting gens d rest new
+  sorting_more gens d left rest sorted new c last is h =
+      let are = subst (Each (λ c. IsColumn S gens c × (total c.at.mono ≡ d))) last h.left_are in
+      let here = (Each_append_right (λ c. IsColumn S gens c × (total c.at.mono ≡ d)) rest (c ∷ []) are).0 in
       subst (Sorting gens d rest) (sym is) (record {
-        left_are = are.1;
-        sorted_are = inserted_each S.order (λ c. IsColumn S gens c × (total c.at.mono ≡ d)) c sorted are.0 h.sorted_are;
-        falls = inserted_falls c sorted are.0.0.place (places gens d sorted h.sorted_are) h.falls;
-        all = λ a w e. there a (subst (λ l. In a (map (λ c. c.at.mono) l) ⊎ In a (map (λ c. c.at.mono) sorted)) first (h.all a w e));
+        left_are = Each_append_left (λ c. IsColumn S gens c × (total c.at.mono ≡ d)) rest (c ∷ []) are;
+        sorted_are = inserted_each S.order (λ c. IsColumn S gens c × (total c.at.mono ≡ d)) c sorted here h.sorted_are;
+        falls = inserted_falls c sorted here.0.place (places gens d sorted h.sorted_are) h.falls;
+        all = λ a w e. there a rest (subst (λ l. In a (map (λ c. c.at.mono) l) ⊎ In a (map (λ c. c.at.mono) sorted)) last (h.all a w e));
       })
     where
-      there : (a : List ℕ) → In a (map (λ c. c.at.mono) (c ∷ rest)) ⊎ In a (map (λ c. c.at.mono) sorted) → In a (map (λ c. c.at.mono) rest) ⊎ In a (map (λ c. c.at.mono) (inserted S.order c sorted))
-      there a (inl (inl e)) = inr (subst (λ b. In b (map (λ c. c.at.mono) (inserted S.order c sorted))) e (inserted_has S.order c sorted))
-      there a (inl (inr i)) = inl i
-      there a (inr i) = inr (inserted_keeps S.order c sorted a i)
+      there : (a : List ℕ) (rest : List (Column E)) → In a (map (λ c. c.at.mono) (rest ++ c ∷ [])) ⊎ In a (map (λ c. c.at.mono) sorted) → In a (map (λ c. c.at.mono) rest) ⊎ In a (map (λ c. c.at.mono) (inserted S.order c sorted))
+      there a rest (inr i) = inr (inserted_keeps S.order c sorted a i)
+      there a [] (inl (inl e)) = inr (subst (λ b. In b (map (λ c. c.at.mono) (inserted S.order c sorted))) e (inserted_has S.order c sorted))
+      there a [] (inl (inr i)) = absurd i
+      there a (x ∷ rest) (inl (inl e)) = inl (inl e)
+      there a (x ∷ rest) (inl (inr i)) = later (there a rest (inl i))
+        where
+          later : In a (map (λ c. c.at.mono) rest) ⊎ In a (map (λ c. c.at.mono) (inserted S.order c sorted)) → In a (map (λ c. c.at.mono) (x ∷ rest)) ⊎ In a (map (λ c. c.at.mono) (inserted S.order c sorted))
+          later (inl i) = inl (inr i)
+          later (inr i) = inr i
 
   key_there : (a : List ℕ) (cs : List (Column E)) → Each (IsColumnPlace S) cs → In a (map (λ c. c.at.mono) cs) → In (key (0, a)) (keys_of cs)
   key_there a [] h i = absurd i

@@ -76,16 +76,14 @@ bounded_of_degree n d t h =
     let low = greatest_total p.0 in
     subst (Bounded d) p.3 (refl, omega (arith, same, low, p.2))
 
-total_zeros : (n : ℕ) → total (replicate n 0) ≡ 0
-total_zeros zero = refl
-total_zeros (suc n) = let h = total_zeros n in omega arith
-
+-- the monomial 1 has degree 0
 pub total_constant : (n : ℕ) → total (replicate n 0) ≡ 0
-total_constant = total_zeros
+total_constant zero = refl
+total_constant (suc n) = let h = total_constant n in omega arith
 
 pub total_unit : (n i : ℕ) → i < n → total (unit_exponents n i) ≡ 1
 total_unit zero i h = absurd (omega arith)
-total_unit (suc n) zero h = let z = total_zeros n in omega arith
+total_unit (suc n) zero h = let z = total_constant n in omega arith
 total_unit (suc n) (suc i) h = let r = total_unit n i (omega arith) in omega arith
 
 pub length_unit : (n i : ℕ) → length (unit_exponents n i) ≡ n

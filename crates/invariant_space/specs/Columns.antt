@@ -1,11 +1,11 @@
 -- Monomials with their images, as the columns of the equations.
 --
---   IsPolynomialOf S v p    the terms p are those of v over the space S, and have position 0
---   IsImage S d v p         and v is a form of degree d in the variables of S
---   key_of c                the key of a column's monomial
---   places_of cs, keys_of cs   the places and keys of all columns
---   IsColumnPlace S c       the monomial of c is one of the space
---   IsColumn S gens c       and the images are its images under the matrices
+--   place_of c, key_of c       the place and the key of a column's monomial
+--   places_of cs, keys_of cs   those of all columns
+--   IsPolynomialOf S v p       the terms p are those of v over the space S, and have position 0
+--   IsImage S d v p            and v is a form of degree d in the variables of S
+--   IsColumnPlace S c          the monomial of c is one of the space
+--   IsColumn S gens c          and the images are its images under the matrices
 use Rattle.std.specs.Prelude.{◌≡◌, ◌<◌, ℕ, List, [], All, length, map, slice_index_or}
 use Rattle.alg_core.specs.Keys.{Place, Key, key}
 use Rattle.alg_core.specs.Vectors.{Vect, vec}

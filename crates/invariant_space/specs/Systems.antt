@@ -1,8 +1,10 @@
 -- The rows of the system of equations.
 --
---   spread S es ps      the values of the entries es at the places ps, in order, and 0 at the others
---   IsBlock S cs m rows   for each column the coefficients of its image under m at all columns
---   IsSystem S cs gens q cells   the cells of the first q equations
+--   spread_by S r a l m          one step: a and then l, where r tells that the entry stands at the place; else 0 and then m
+--   spread S es ps               the values of the entries es at the places ps, in order, and 0 at the others
+--   IsBlock S cs m rows          for each column the coefficients of its image under m at all columns
+--   IsSystem S cs gens q cells   the cells of the first q equations: at each column the coefficient of its image under
+--                                the equation's matrix at the equation's monomial, less 1 at that monomial's own column
 use Rattle.std.specs.Prelude.{◌≡◌, ◌<◌, ◌+◌, ◌*◌, ℕ, List, [], ◌∷◌, All, length, slice_index_or}
 use Rattle.std.specs.declared.cmp.Ordering.{Ordering}
 use Rattle.std.specs.declared.cmp.Ordering.TheVariants.{Less, Equal, Greater}

@@ -67,8 +67,10 @@ pub(crate) fn sorted<F: Field, O: TermOrder>(
     ensures columns { let S = over F.field O.order space.now in IfOk result (λ cs. All (IsColumn S gens.now) cs.items) }
     ensures monomials { let S = over F.field O.order space.now in IfOk result (λ cs. IsMonomialList (key_order S) (length S.weights) d (keys_of cs.items)) }
 {
+    let mut left = level(alloc, space, gens, d)?;
     let mut sorted = Vec::new(alloc);
-    for column in level(alloc, space, gens, d)? {
+    // From the last on: by the usual order they fall, and each comes before those that are sorted.
+    while let Some(column) = left.pop() {
         insert(space, &mut sorted, column)?;
     }
     Ok(sorted)

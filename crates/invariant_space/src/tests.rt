@@ -170,12 +170,13 @@ fn finds_invariants(rt: HostRuntime) -> Result<(), Fail> {
 fn tells_the_bound(rt: HostRuntime) -> Result<(), Fail> {
     let alloc = rt.alloc();
     assert!(rt; basis_of(alloc, 2, &SWAP, 2, 6)?.is_ok());
-    match basis_of(alloc, 2, &SWAP, 2, 5)? {
-        Err(SpaceFault::TermBound { degree, count }) => {
-            assert_eq!(rt; degree, 2);
-            assert_eq!(rt; count, 6);
-        }
-        _ => panic!(rt; "no bound"),
-    }
+    let Err(fault) = basis_of(alloc, 2, &SWAP, 2, 5)? else {
+        return Err(Fail::new("no bound"));
+    };
+    assert_eq!(rt; format!(in alloc; "{fault}")?.as_str(), "bound terms 2 6");
+    assert_eq!(rt;
+        format!(in alloc; "{}", SpaceFault::Memory)?.as_str(),
+        "memory"
+    );
     Ok(())
 }
