@@ -59,7 +59,7 @@ letter_name b h =
         (ap₂ (λ (t u : Bool). t || u) (other_length (b ∷ []) (109 ∷ 97 ∷ 116 ∷ 114 ∷ 105 ∷ 120 ∷ []) (λ e. omega (arith, e)))
         (ap₂ (λ (t u : Bool). t || u) (other_length (b ∷ []) (112 ∷ 114 ∷ 105 ∷ 110 ∷ 116 ∷ []) (λ e. omega (arith, e)))
         (ap₂ (λ (t u : Bool). t || u) (other_length (b ∷ []) (105 ∷ 110 ∷ 118 ∷ 97 ∷ 114 ∷ 105 ∷ 97 ∷ 110 ∷ 116 ∷ 95 ∷ 114 ∷ 105 ∷ 110 ∷ 103 ∷ []) (λ e. omega (arith, e)))
-          (other_length (b ∷ []) (100 ∷ 112 ∷ []) (λ e. omega (arith, e)))))))
+        (other_length (b ∷ []) (100 ∷ 112 ∷ []) (λ e. omega (arith, e)))))))
 
 -- a loop over the members adds one line a turn
 module _ {X : Type 0} (view : X → List (Entry ℕ)) (S : SpaceOver ℕ) (names : Names) (basis : List X) where
@@ -76,13 +76,13 @@ module _ {X : Type 0} (view : X → List (Entry ℕ)) (S : SpaceOver ℕ) (names
 -- the matrix of a script is square and over its field
 pub script_matrix : (s : ThinScript) (f : PrimeField) → IsThinScript s → f.p ≡ s.characteristic → (n : ℕ) → n ≡ length s.names → (m : Matrix ℕ) → IsMatrixOf s m → IsSquare (gfp f.p f.listed) n m
 script_matrix s f thin field n size m is = record {
-    matrix = record {
-      whole = ap length is.cells ∙ thin.square ∙ ap₂ ◌*◌ (sym is.rows) (sym is.cols);
-      has = λ k d l. has (get_or m.cells.items k d) (subst (λ (cells : List ℕ). get_or cells k d < f.p) (sym is.cells) (subst (λ (p : ℕ). get_or s.cells k d < p) (sym field) (thin.below k d (subst (λ (cells : List ℕ). k < length cells) is.cells l))));
-    };
-    rows = is.rows ∙ sym size;
-    cols = is.cols ∙ sym size;
-  }
+  matrix = record {
+    whole = ap length is.cells ∙ thin.square ∙ ap₂ ◌*◌ (sym is.rows) (sym is.cols);
+    has = λ k d l. has (get_or m.cells.items k d) (subst (λ (cells : List ℕ). get_or cells k d < f.p) (sym is.cells) (subst (λ (p : ℕ). get_or s.cells k d < p) (sym field) (thin.below k d (subst (λ (cells : List ℕ). k < length cells) is.cells l))));
+  };
+  rows = is.rows ∙ sym size;
+  cols = is.cols ∙ sym size;
+}
   where
     has : (c : ℕ) → c < f.p → Has (gfp f.p f.listed) c
     has c l = lt-ltb c f.p l

@@ -18,11 +18,7 @@ use prime_field::PrimeField;
 use std::alloc::Global;
 
 /// The polynomials in `n` variables, each of degree 1, by degree reverse lexicographic order.
-fn polynomials(
-    alloc: Global,
-    field: PrimeField,
-    n: usize,
-) -> Result<Space<PrimeField, Dp>, Memory>
+fn polynomials(alloc: Global, field: PrimeField, n: usize) -> Result<Space<PrimeField, Dp>, Memory>
     ensures field { IfOk result (λ s. s.field ≡ field) }
     ensures order { IfOk result (λ s. s.order.weights.items ≡ replicate n 1) }
     ensures weights { IfOk result (λ s. s.grading.weights.items ≡ replicate n 1) }

@@ -15,7 +15,7 @@ pub loop-i-preserved : goal.loop-i-preserved
 loop-i-preserved c =
     let S = over (λ (f : PrimeField). gfp f.p f.listed) (λ (o : Dp). dp_order o.weights.items) c.args.space.now in
     lines_next (entries (λ (m : List ℕ). m)) S c.args.names.now c.args.basis.now c.loop-i.i c.index-basis-i.result c.loop-i.text.items c.in_ok-line.line.items c.deref.result.now c.extend_from_slice.new.self.items c.push.new.self.items
-      c.loop-i-test.true c.index-basis-i.is c.loop-i.invariant c.in_ok-line.ensures.text c.deref.ensures.value c.in_ok-extend_from_slice.ensures.items c.in_ok-push.ensures.items
+    c.loop-i-test.true c.index-basis-i.is c.loop-i.invariant c.in_ok-line.ensures.text c.deref.ensures.value c.in_ok-extend_from_slice.ensures.items c.in_ok-push.ensures.items
 
 pub returns : goal.returns
 returns c =

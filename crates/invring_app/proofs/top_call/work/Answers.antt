@@ -43,7 +43,7 @@ returns-in-Ok-write_all-clause-basis g c = λ d limits s is asks.
     let read = read-is _ _ _ _ c.deref.ensures.value c.in-Ok.ensures.gave c.in-Ok.ensures.end in
     let fits = c.in-Ok-answer.ensures.basis in
     asked-at (λ d l s. (text : List ℕ) × IsBasisText s d text × Took (g.O.Sink.taken c.args.out.now) text (g.O.Sink.taken c.write_all.new.sink)) _ _ _ _ c.in-Some.request d c.degree-degree.result limits s fits.0 read c.in-Some.ensures.some c.degree-degree.ensures.basis fits.1
-      (c.deref-2.result.now, subst (IsBasisText fits.0 c.degree-degree.result) (sym c.deref-2.ensures.value) fits.3, c.in-Ok-write_all.ensures.ok) asks
+    (c.deref-2.result.now, subst (IsBasisText fits.0 c.degree-degree.result) (sym c.deref-2.ensures.value) fits.3, c.in-Ok-write_all.ensures.ok) asks
 
 pub returns-clause-basis_front : goal.returns-clause-basis_front
 returns-clause-basis_front g c = λ d limits s is asks.
@@ -51,7 +51,7 @@ returns-clause-basis_front g c = λ d limits s is asks.
     let fits = c.in-Ok-answer.ensures.basis in
     let front = c.in-Err.ensures.err in
     asked-at (λ d l s. (text : List ℕ) × (k : ℕ) × IsBasisText s d text × (k < length text) × Took (g.O.Sink.taken c.args.out.now) (take k text) (g.O.Sink.taken c.write_all.new.sink)) _ _ _ _ c.in-Some.request d c.degree-degree.result limits s fits.0 read c.in-Some.ensures.some c.degree-degree.ensures.basis fits.1
-      (c.deref-2.result.now, front.0, subst (IsBasisText fits.0 c.degree-degree.result) (sym c.deref-2.ensures.value) fits.3, front.1, front.2) asks
+    (c.deref-2.result.now, front.0, subst (IsBasisText fits.0 c.degree-degree.result) (sym c.deref-2.ensures.value) fits.3, front.1, front.2) asks
 
 pub returns-in-Ok-write_all-clause-script : goal.returns-in-Ok-write_all-clause-script
 returns-in-Ok-write_all-clause-script g c = λ past.
