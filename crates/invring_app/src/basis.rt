@@ -37,7 +37,7 @@ pub(crate) fn basis_text<F: Field<Elem = u16>>(
     requires square { length matrix.now ≡ length names.now * length names.now }
     requires matrix { All (Has (F.field field.now)) matrix.now }
     requires degree { degree ≤ 1000 }
-    requires monomials { monomials_of_degree (length names.now) degree ≤ 2000 }
+    requires monomials { monomials_of_degree (length names.now) degree ≤ 4096 }
     ensures lines { IfOk result (λ text. IsLines text.items) }
 {
     let images = substituted(alloc, field, matrix, names.len(), degree)?;

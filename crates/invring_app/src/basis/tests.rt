@@ -42,7 +42,7 @@ fn prints(
     requires few { length names.now ≤ 8 }
     requires square { length entries.now ≡ length names.now * length names.now }
     requires degree { degree ≤ 1000 }
-    requires monomials { monomials_of_degree (length names.now) degree ≤ 2000 }
+    requires monomials { monomials_of_degree (length names.now) degree ≤ 4096 }
 {
     let field = PrimeField::new(p).expect(rt, "listed");
     let matrix = values(rt.alloc(), &field, entries)?;
