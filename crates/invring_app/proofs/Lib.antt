@@ -1,9 +1,11 @@
 pub mod BinomialLaws
 pub mod CommandLaws
 pub mod Fronts
+pub mod GivenLaws
 pub mod NameLaws
 pub mod NumeralLaws
 pub mod PartLaws
 pub mod RefusalLaws
 pub mod RunLaws
 pub mod ScriptLaws
+pub mod WordLaws

@@ -1,12 +1,18 @@
 -- What was read is what the source had left, where it tells, and what the words and the bytes ask is one thing.
 use Rattle.std.proofs.Common.{◌≡◌, ℕ, ◌+◌, ◌<◌, ◌≤◌, List, [], ◌++◌, length, take, Some, None, sym, ap, subst, ◌∙◌, append-nil, length-append, arith}
-use Rattle.std.specs.Prelude.{Option, IfSome, IsSomeAnd}
+use Rattle.std.specs.Prelude.{All, Option, IfSome, IsSomeAnd}
+use Rattle.std.proofs.lemmas.List.Elements.{All-head}
 use Rattle.inv_outside.specs.Outside.{Gave, Took}
-use Rattle.invring_app.specs.Commands.{AsksBasis}
+use Rattle.alg_core.specs.declared.limits.Limits.{Limits}
+use Rattle.invring_app.specs.declared.arguments.Argument.TheVariants.{Number}
+use Rattle.invring_app.specs.declared.words.Command.{Command}
+use Rattle.invring_app.specs.declared.words.Command.TheVariants.{Basis}
+use Rattle.invring_app.specs.declared.words.Request.{Request}
+use Rattle.invring_app.specs.Commands.{IsInRange, numbers_of, IsRequest, AreInRange}
 use Rattle.invring_app.specs.Outcomes.{Asks}
 use Rattle.invring_app.specs.Outputs.{IsLines}
 use Rattle.invring_app.specs.ThinScripts.{ThinScript, ThinScriptText}
-use Rattle.invring_app.proofs.CommandLaws.{AsksBasis-unique}
+use Rattle.invring_app.proofs.CommandLaws.{IsRequest-unique}
 use Rattle.invring_app.proofs.ScriptLaws.{ThinScriptText-unique}
 
 -- bytes that a source gave, and what it had left before: to its end, or more than a script has
@@ -28,17 +34,30 @@ pub read-no_text : (left left' : Option (List ℕ)) (bytes : List ℕ) → Read 
 read-no_text None left' bytes read none = tt
 read-no_text (Some whole) left' bytes read none = λ s text. none s (read-text (Some whole) left' bytes s read text)
 
--- what holds of the degree and the script that were read holds of those that are asked
-pub asked-at : (P : ℕ → ThinScript → Type 0) (words : List (List ℕ)) (left left' : Option (List ℕ)) (bytes : List ℕ) (d d' : ℕ) (s s' : ThinScript)
-    → Read left bytes left' → AsksBasis words d' → ThinScriptText bytes s' → P d' s' → Asks words left d s → P d s
-asked-at P words left left' bytes d d' s s' read degree text holds asks =
-    let same_degree : d' ≡ d = AsksBasis-unique words d' d degree asks.degree in
+-- what holds of the degree, the limits and the script that were read holds of those that are asked
+pub asked-at : (P : ℕ → Limits → ThinScript → Type 0) (words : List (List ℕ)) (left left' : Option (List ℕ)) (bytes : List ℕ) (r : Request) (d d' : ℕ) (limits : Limits) (s s' : ThinScript)
+    → Read left bytes left' → IsRequest words r → r.command ≡ Basis d' → ThinScriptText bytes s' → P d' r.limits s' → Asks words left d limits s → P d limits s
+asked-at P words left left' bytes r d d' limits s s' read request command text holds asks =
+    let same : r ≡ record { command = Basis d; limits = limits } = IsRequest-unique words r _ request asks.basis in
+    let same_command : Basis d' ≡ Basis d = sym command ∙ ap (λ (x : Request). x.command) same in
+    let same_degree : d' ≡ d = cc in
+    let same_limits : r.limits ≡ limits = ap (λ (x : Request). x.limits) same in
     let same_script : s' ≡ s = ThinScriptText-unique bytes s' s text (read-text left left' bytes s read asks.script) in
-    subst (λ (t : ThinScript). P d t) same_script (subst (λ (m : ℕ). P m s') same_degree holds)
+    subst (λ (t : ThinScript). P d limits t) same_script (subst (λ (l : Limits). P d l s') same_limits (subst (λ (m : ℕ). P m r.limits s') same_degree holds))
+
+-- a command that was read asks for a degree of at most 1000
+pub degree-range : (r : Request) (d : ℕ) → AreInRange r → r.command ≡ Basis d → d ≤ 1000
+degree-range r d range command =
+    let numbers = subst (λ (c : Command). All (IsInRange Number) (numbers_of c)) command range.numbers in
+    (All-head (IsInRange Number) d [] numbers).1
 
 -- the slice of the bytes that were read
 pub read-is : (left left' : Option (List ℕ)) (bytes slice : List ℕ) → slice ≡ bytes → Gave left bytes left' → (length bytes ≤ 4096 → IfSome left' (λ rest. rest ≡ [])) → Read left slice left'
 read-is left left' bytes slice same gave end = subst (λ (t : List ℕ). Read left t left') (sym same) (record { gave = gave; end = end })
+
+-- the whole lines that a sink took
+pub done-is : (before after : Option (List ℕ)) (text slice : List ℕ) → slice ≡ text → IsLines text → Took before slice after → (whole : List ℕ) × IsLines whole × Took before whole after
+done-is before after text slice same lines took = (slice, subst IsLines (sym same) lines, took)
 
 -- the front of whole lines that a sink took
 pub front-is : (before after : Option (List ℕ)) (text slice : List ℕ) → slice ≡ text → IsLines text → (k : ℕ) × (k < length slice) × Took before (take k slice) after

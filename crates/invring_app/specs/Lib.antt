@@ -7,3 +7,4 @@ pub mod Reading
 pub mod Refusals
 pub mod Rows
 pub mod ThinScripts
+pub mod WordReading

@@ -3,11 +3,13 @@
 --   exit_code status         the exit status of the program
 --   IsPastReading status     the script was read: the run ended at a bound, at a write, or was done
 --   Writes status            the run came to write its output
---   Asks words left d s      the words ask for degree d, and the bytes that were to come are told and are a text of s
+--   Asks words left d l s    the words ask for degree d under the limits l, and the bytes that were to come are told
+--                            and are a text of s
 --   count_of d s             how many monomials of degree d there are in the variables of s
---   IsTermBound fault d s    the fault names d and that count, which is over 2000
+--   IsTermBound fault d m s  the fault names d and that count, which is over m
 use Rattle.std.specs.Prelude.{◌≡◌, ℕ, ◌<◌, List, length, Option, IsSomeAnd}
 use Rattle.alg_core.specs.Binomials.{monomials_of_degree}
+use Rattle.alg_core.specs.declared.limits.Limits.{Limits}
 use Rattle.invring_app.specs.declared.status.BoundFault.{BoundFault}
 use Rattle.invring_app.specs.declared.status.BoundFault.TheVariants.{TermBound}
 use Rattle.invring_app.specs.declared.status.Status.{Status}
@@ -42,12 +44,12 @@ Writes ReadFault = ⊥
 Writes WriteFault = Unit {0}
 Writes Memory = ⊥
 
-pub record Asks (words : List (List ℕ)) (left : Option (List ℕ)) (d : ℕ) (s : ThinScript) : Type 0 where
-  pub degree : AsksBasis words d
+pub record Asks (words : List (List ℕ)) (left : Option (List ℕ)) (d : ℕ) (limits : Limits) (s : ThinScript) : Type 0 where
+  pub basis : AsksBasis words d limits
   pub script : IsSomeAnd left (λ bytes. ThinScriptText bytes s)
 
 abbrev pub count_of : ℕ → ThinScript → ℕ
 count_of d s = monomials_of_degree (length s.names) d
 
-abbrev pub IsTermBound : BoundFault → ℕ → ThinScript → Type 0
-IsTermBound fault d s = (fault ≡ TermBound d (count_of d s)) × (2000 < count_of d s)
+abbrev pub IsTermBound : BoundFault → ℕ → ℕ → ThinScript → Type 0
+IsTermBound fault d m s = (fault ≡ TermBound d (count_of d s)) × (m < count_of d s)

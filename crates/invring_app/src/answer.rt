@@ -11,9 +11,6 @@ use crate::status::BoundFault;
 use alg_core::{Memory, Place};
 use std::alloc::Global;
 
-/// The most monomials that one degree may have.
-const MAX_TERMS: u128 = 2000;
-
 /// Why there is no answer to a script.
 #[derive(Debug, Drop)]
 pub(crate) enum Refusal {
@@ -49,16 +46,22 @@ impl From<ReadError> for Refusal {
 
 /// The basis of this degree for the script that the bytes are a text of, one line for each of its
 /// polynomials.
-pub(crate) fn answer(alloc: Global, degree: u32, bytes: &[u8]) -> Result<Vec<u8>, Refusal>
+pub(crate) fn answer(
+    alloc: Global,
+    degree: u32,
+    max_terms: u32,
+    bytes: &[u8],
+) -> Result<Vec<u8>, Refusal>
     requires degree { degree ≤ 1000 }
+    requires max_terms { max_terms ≤ 4096 }
     ensures lines { IfOk result (λ text. IsLines text.items) }
-    ensures script { OnOk result ((s : ThinScript) × ThinScriptText bytes.now s × (count_of degree s ≤ 2000)) }
+    ensures script { OnOk result ((s : ThinScript) × ThinScriptText bytes.now s × (count_of degree s ≤ max_terms)) }
     ensures syntax { (place : Place) → result ≡ Err (Refusal.Syntax place) → (place ≡ Place.Byte 0) × ((s : ThinScript) → ¬ ThinScriptText bytes.now s) }
-    ensures bound { (fault : BoundFault) → result ≡ Err (Refusal.Bound fault) → (s : ThinScript) × ThinScriptText bytes.now s × IsTermBound fault degree s }
+    ensures bound { (fault : BoundFault) → result ≡ Err (Refusal.Bound fault) → (s : ThinScript) × ThinScriptText bytes.now s × IsTermBound fault degree max_terms s }
 {
     let script = read_script(alloc, bytes)?;
     let count = monomial_count(script.names.len() as u32, degree);
-    if count > MAX_TERMS {
+    if count > u128::from(max_terms) {
         return Err(Refusal::Bound(BoundFault::TermBound { degree, count }));
     }
     let text = basis_text(alloc, &script.field, &script.names, &script.cells, degree)?;

@@ -2,10 +2,12 @@
 #![tactic(auto)]
 
 mod answer;
+mod arguments;
 mod basis;
 mod cells;
 mod count;
 mod fault;
+mod given;
 mod names;
 mod number;
 mod parts;
@@ -16,6 +18,7 @@ mod words;
 
 pub use status::{BoundFault, Status};
 pub use top_call::run;
+pub use words::{Command, Request, words_ask_once};
 
 #[cfg(test)]
 mod tests;

@@ -3,7 +3,7 @@ ghost use Rattle.invring_app.specs.Numerals.{number_of};
 
 /// The number that a text writes in decimal without a leading zero, if it is at most the limit.
 pub(crate) fn number(limit: u32, text: &[u8]) -> Option<u32>
-    requires small { limit ≤ 1000000 }
+    requires small { limit ≤ 400000000 }
     ensures is { result ≡ number_of limit text.now }
     ensures within { IfSome result (λ value. value ≤ limit) }
 {

@@ -1,6 +1,8 @@
 ghost use Rattle.std.specs.Prelude.{◌≡◌, ◌≢◌, ◌↔◌, ◌<◌, ◌≤◌, ℕ, List, [], length, take, map, string_bytes, IfSome};
 ghost use Rattle.inv_outside.specs.Outside.{Rose, Gave, Took};
-ghost use Rattle.invring_app.specs.Commands.{AsksBasis};
+ghost use Rattle.alg_core.specs.declared.limits.Limits.{Limits};
+ghost use Rattle.invring_app.specs.Commands.{IsRequest};
+ghost use Rattle.invring_app.specs.declared.words.Request.{Request};
 ghost use Rattle.invring_app.specs.Outcomes.{Asks, IsPastReading, Writes, IsTermBound, count_of};
 ghost use Rattle.invring_app.specs.Outputs.{IsLines};
 ghost use Rattle.invring_app.specs.ThinScripts.{ThinScript, ThinScriptText};
@@ -8,7 +10,7 @@ ghost use Rattle.invring_app.specs.ThinScripts.{ThinScript, ThinScriptText};
 use crate::answer::{Refusal, answer};
 use crate::script::LIMIT;
 use crate::status::{BoundFault, Status};
-use crate::words::degree_asked;
+use crate::words::read_words;
 use alg_core::Place;
 use inv_outside::{ReadFault, Sink, Source, read_all, write_all};
 use std::alloc::Global;
@@ -26,8 +28,8 @@ pub fn run<S: Source, O: Sink, E: Sink>(
     err: &mut E,
 ) -> Status
     // The words.
-    ensures usage { result ≡ Status.Usage ↔ ((d : ℕ) → ¬ AsksBasis (map string_bytes words.now) d) }
-    ensures asked { result ≢ Status.Usage → (d : ℕ) × AsksBasis (map string_bytes words.now) d }
+    ensures usage { result ≡ Status.Usage ↔ ((r : Request) → ¬ IsRequest (map string_bytes words.now) r) }
+    ensures asked { result ≢ Status.Usage → (r : Request) × IsRequest (map string_bytes words.now) r }
     ensures idle { result ≡ Status.Usage → src.new ≡ src.old }
 
     // Reading, and what was read: at most one byte more than a script may have.
@@ -39,8 +41,8 @@ pub fn run<S: Source, O: Sink, E: Sink>(
     ensures end { IsPastReading result → IfSome (S.left src.new) (λ rest. rest ≡ []) }
 
     // The bound.
-    ensures bound { (f : BoundFault) (d : ℕ) (s : ThinScript) → result ≡ Status.Bound f → Asks (map string_bytes words.now) (S.left src.old) d s → IsTermBound f d s }
-    ensures within { (d : ℕ) (s : ThinScript) → Writes result → Asks (map string_bytes words.now) (S.left src.old) d s → count_of d s ≤ 2000 }
+    ensures bound { (f : BoundFault) (d : ℕ) (limits : Limits) (s : ThinScript) → result ≡ Status.Bound f → Asks (map string_bytes words.now) (S.left src.old) d limits s → IsTermBound f d limits.max_terms s }
+    ensures within { (d : ℕ) (limits : Limits) (s : ThinScript) → Writes result → Asks (map string_bytes words.now) (S.left src.old) d limits s → count_of d s ≤ limits.max_terms }
 
     // What is written.
     ensures done { result ≡ Status.Done → (text : List ℕ) × IsLines text × Took (O.taken out.old) text (O.taken out.new) }
@@ -49,16 +51,17 @@ pub fn run<S: Source, O: Sink, E: Sink>(
     ensures silent { ¬ Writes result → out.new ≡ out.old }
     ensures err { err.new ≡ err.old }
 {
-    let degree = match degree_asked(words) {
-        Some(degree) => degree,
+    let request = match read_words(words) {
+        Some(request) => request,
         None => return Status::Usage,
     };
+    let degree = request.command.degree();
     let bytes = match read_all(alloc, src, LIMIT) {
         Ok(bytes) => bytes,
         Err(ReadFault::Failed) => return Status::ReadFault,
         Err(ReadFault::Memory) => return Status::Memory,
     };
-    let text = match answer(alloc, degree, &bytes) {
+    let text = match answer(alloc, degree, request.limits.max_terms, &bytes) {
         Ok(text) => text,
         Err(Refusal::Memory) => return Status::Memory,
         Err(Refusal::Syntax(place)) => return Status::Syntax(place),

@@ -1,15 +1,134 @@
-ghost use Rattle.std.specs.Prelude.{◌≡◌, ℕ, IfSome, IfNone, map, string_bytes};
-ghost use Rattle.invring_app.specs.Commands.{AsksBasis};
+ghost use Rattle.std.specs.Prelude.{◌≡◌, ℕ, List, IfSome, IfNone, map, string_bytes};
+ghost use Rattle.invring_app.specs.Commands.{IsRequest, AreInRange};
+ghost use Rattle.invring_app.specs.WordReading.{give, step_of, arguments_of, request_of};
+ghost use Rattle.invring_app.specs.declared.words.Request.{Request as Asked};
 
+use crate::arguments::Argument;
+use crate::given::Given;
 use crate::number::number;
+use alg_core::Limits;
 
-/// The degree of the basis that the words ask for. It takes no memory.
-pub(crate) fn degree_asked(words: &[String]) -> Option<u32>
-    ensures some { IfSome result (AsksBasis (map string_bytes words.now)) }
-    ensures none { IfNone result ((d : ℕ) → ¬ AsksBasis (map string_bytes words.now) d) }
-{
-    match words {
-        [command, degree] if command.as_str() == "basis" => number(1000, degree.as_bytes()),
-        _ => None,
+/// What is to be done.
+#[derive(Clone, Copy, Debug, PartialEq, Eq)]
+pub enum Command {
+    /// The echelon basis of the invariants of one degree.
+    Basis { degree: u32 },
+}
+
+impl Command {
+    ghost use Rattle.std.specs.Prelude.{◌≡◌};
+
+    /// The number that the command has.
+    pub fn degree(self) -> u32
+        ensures basis { self ≡ Command.Basis result }
+    {
+        match self {
+            Command::Basis { degree } => degree,
+        }
     }
 }
+
+/// What the words ask for.
+#[derive(Clone, Copy, Debug, PartialEq, Eq)]
+pub struct Request {
+    pub command: Command,
+    pub limits: Limits,
+}
+
+/// What was read so far, and the option whose value the next word is.
+#[derive(Clone, Copy, Debug)]
+struct Reading {
+    given: Given,
+    awaited: Option<Argument>,
+}
+
+/// What is given with the value that a text writes for an argument, which is to have none so far.
+#[tactic(auto, unfolding(crate::specs::WordReading::give))]
+fn give(given: Given, argument: Argument, text: &str) -> Option<Reading>
+    ensures is { result ≡ give given argument text.now }
+{
+    if given.at(argument).is_some() {
+        return None;
+    }
+    let value = number(argument.most(), text.as_bytes())?;
+    if value < argument.least() {
+        return None;
+    }
+    Some(Reading {
+        given: given.with(argument, value),
+        awaited: None,
+    })
+}
+
+/// What is read with one word more.
+#[tactic(auto, unfolding(crate::specs::WordReading::step_of))]
+fn step(reading: Reading, word: &str) -> Option<Reading>
+    ensures is { result ≡ step_of reading word.now }
+{
+    let Reading { given, awaited } = reading;
+    if let Some(argument) = awaited {
+        return give(given, argument, word);
+    }
+    if let Some((name, value)) = word.split_once('=') {
+        let argument = Argument::named(name)?;
+        return give(given, argument, value);
+    }
+    match Argument::named(word) {
+        Some(argument) => Some(Reading {
+            given,
+            awaited: Some(argument),
+        }),
+        None => give(given, Argument::Number, word),
+    }
+}
+
+/// What the words after the command's name give.
+#[tactic(auto, unfolding(crate::specs::WordReading::arguments_of))]
+fn arguments_in(words: &[String]) -> Option<Given>
+    ensures is { result ≡ arguments_of (map string_bytes words.now) }
+{
+    let mut reading = Reading {
+        given: Given::nothing(),
+        awaited: None,
+    };
+    for word in words {
+        match step(reading, word.as_str()) {
+            Some(next) => reading = next,
+            None => return None,
+        }
+    }
+    match reading.awaited {
+        Some(_) => None,
+        None => Some(reading.given),
+    }
+}
+
+/// What the words ask for, by their reading from the left.
+fn request_in(words: &[String]) -> Option<Request>
+    ensures is { result ≡ request_of (map string_bytes words.now) }
+{
+    let (command, rest) = words.split_first()?;
+    if command.as_str() != "basis" {
+        return None;
+    }
+    let given = arguments_in(rest)?;
+    let degree = given.number?;
+    Some(Request {
+        command: Command::Basis { degree },
+        limits: given.limits(),
+    })
+}
+
+/// What the words ask for. It takes no memory.
+pub(crate) fn read_words(words: &[String]) -> Option<Request>
+    ensures some { IfSome result (IsRequest (map string_bytes words.now)) }
+    ensures range { IfSome result AreInRange }
+    ensures none { IfNone result ((r : Asked) → ¬ IsRequest (map string_bytes words.now) r) }
+{
+    request_in(words)
+}
+
+/// A law: words are at most one command.
+pub fn words_ask_once()
+    ensures one { (words : List (List ℕ)) (r : Asked) (s : Asked) → IsRequest words r → IsRequest words s → r ≡ s }
+{}
