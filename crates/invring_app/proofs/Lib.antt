@@ -1,7 +1,9 @@
 pub mod BinomialLaws
 pub mod CommandLaws
+pub mod DigitLaws
 pub mod Fronts
 pub mod GivenLaws
+pub mod LineLaws
 pub mod NameLaws
 pub mod NumeralLaws
 pub mod PartLaws

@@ -1,4 +1,5 @@
 pub mod Commands
+pub mod ErrorLines
 pub mod Monomials
 pub mod Numerals
 pub mod Outcomes

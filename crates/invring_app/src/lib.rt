@@ -6,6 +6,8 @@ mod arguments;
 mod basis;
 mod cells;
 mod count;
+mod digits;
+mod error_line;
 mod fault;
 mod given;
 mod names;

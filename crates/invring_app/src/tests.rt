@@ -18,19 +18,20 @@ fn strings(alloc: Global, words: &[&str]) -> Result<Vec<String>, AllocError> {
     Ok(strings)
 }
 
-/// How a run ends that no fault of the outside meets, and what it writes.
+/// How a run ends that no fault of the outside meets, what it writes, and its error line.
 fn clean_run(
     alloc: Global,
     words: &[&str],
     script: &[u8],
-) -> Result<(Status, Vec<u8>), AllocError> {
+) -> Result<(Status, Vec<u8>, Vec<u8>), AllocError> {
     let mut source = CleanSource::new(Vec::from_slice(alloc, script)?);
     let mut output = CleanSink::new(alloc, 64).map_err(|_| AllocError)?;
     let mut errors = CleanSink::new(alloc, 64).map_err(|_| AllocError)?;
     let words = strings(alloc, words)?;
     let status = run(alloc, &words, &mut source, &mut output, &mut errors);
     let taken = Vec::from_slice(alloc, output.taken().unwrap_or(b"more than fits"))?;
-    Ok((status, taken))
+    let line = Vec::from_slice(alloc, errors.taken().unwrap_or(b"more than fits"))?;
+    Ok((status, taken, line))
 }
 
 #[test]
@@ -41,48 +42,135 @@ fn answers_scripts(rt: HostRuntime) -> Result<(), Fail> {
     };
     let on_lines = b"ring R=2,(x,y),dp;\nmatrix A[2][2]=0,1,1,0;\n";
     let one_variable = b"ring R=32003,(q),dp;\nmatrix A[1][1]=32002;";
-    let table: [(&str, &[u8], Status, &[u8]); 7] = [
-        ("2", SWAP, Status::Done, b"x^2+y^2\nx*y\n"),
-        ("0", SWAP, Status::Done, b"1\n"),
-        ("1", on_lines, Status::Done, b"x+y\n"),
-        ("1", CYCLE, Status::Done, b"x+y+z\n"),
-        ("62", CYCLE, Status::Bound(over), b""),
-        ("1", one_variable, Status::Done, b""),
-        ("2", one_variable, Status::Done, b"q^2\n"),
+    let table: [(&str, &[u8], Status, &[u8], &[u8]); 8] = [
+        ("2", SWAP, Status::Done, b"x^2+y^2\nx*y\n", b""),
+        ("0", SWAP, Status::Done, b"1\n", b""),
+        ("1", on_lines, Status::Done, b"x+y\n", b""),
+        ("1", CYCLE, Status::Done, b"x+y+z\n", b""),
+        (
+            "62",
+            CYCLE,
+            Status::Bound(over),
+            b"",
+            b"bound terms 62 2016\n",
+        ),
+        ("1", one_variable, Status::Done, b"", b""),
+        ("2", one_variable, Status::Done, b"q^2\n", b""),
+        (
+            "1000",
+            b"",
+            Status::Syntax(Place::Byte(0)),
+            b"",
+            b"syntax place 0\n",
+        ),
     ];
-    for (degree, script, status, text) in table {
-        let (ended, taken) = clean_run(rt.alloc(), &["basis", degree], script)?;
+    for (degree, script, status, text, line) in table {
+        let (ended, taken, told) = clean_run(rt.alloc(), &["basis", degree], script)?;
         assert_eq!(rt; ended, status, "at {degree}");
         assert_eq!(rt; taken.as_slice(), text, "at {degree}");
+        assert_eq!(rt; told.as_slice(), line, "at {degree}");
+    }
+    Ok(())
+}
+
+#[test]
+fn takes_options_in_any_order(rt: HostRuntime) -> Result<(), Fail> {
+    let over = BoundFault::TermBound {
+        degree: 9,
+        count: 10,
+    };
+    let all: &[&str] = &[
+        "basis",
+        "--max-order=1000000",
+        "--max-degree",
+        "1000",
+        "--max-basis=1",
+        "2",
+        "--max-text",
+        "268435456",
+        "--max-terms=3",
+        "--tries",
+        "65536",
+        "--max-rank=4096",
+    ];
+    let table: [(&[&str], Status, &[u8], &[u8]); 4] = [
+        (
+            &["basis", "--max-terms=9", "2"],
+            Status::Done,
+            b"x^2+y^2\nx*y\n",
+            b"",
+        ),
+        (
+            &["basis", "9", "--max-terms", "9"],
+            Status::Bound(over),
+            b"",
+            b"bound terms 9 10\n",
+        ),
+        (
+            &["basis", "--max-terms", "9", "9"],
+            Status::Bound(over),
+            b"",
+            b"bound terms 9 10\n",
+        ),
+        (all, Status::Done, b"x^2+y^2\nx*y\n", b""),
+    ];
+    for (words, status, text, line) in table {
+        let (ended, taken, told) = clean_run(rt.alloc(), words, SWAP)?;
+        assert_eq!(rt; ended, status, "{words:?}");
+        assert_eq!(rt; taken.as_slice(), text, "{words:?}");
+        assert_eq!(rt; told.as_slice(), line, "{words:?}");
     }
     Ok(())
 }
 
 #[test]
 fn refuses_other_words(rt: HostRuntime) -> Result<(), Fail> {
-    let table: [&[&str]; 14] = [
+    let table: [&[&str]; 38] = [
         &[],
         &[""],
         &["basis"],
         &["basis", ""],
-        &["basis", "01"],
+        &["basis", "02"],
         &["basis", "00"],
-        &["basis", "+1"],
+        &["basis", "+2"],
         &["basis", " 1"],
         &["basis", "-1"],
         &["basis", "1001"],
         &["basis", "18446744073709551617"],
-        &["basis", "1", "2"],
+        &["basis", "2", "3"],
         &["1", "basis"],
         &["Basis", "1"],
+        &["basis", "2", "basis"],
+        &["ring"],
+        &["--help"],
+        &["--"],
+        &["--", "basis", "2"],
+        &["basis", "--", "2"],
+        &["basis", "2", "--help"],
+        &["--max-terms", "9", "basis", "2"],
+        &["basis", "--max-terms=9"],
+        &["basis", "--max-terms", "9"],
+        &["basis", "2", "--max-terms"],
+        &["basis", "2", "--max-terms="],
+        &["basis", "2", "--max-terms=9=9"],
+        &["basis", "2", "--max-terms", "--tries", "1"],
+        &["basis", "2", "--max-terms=9", "--max-terms", "9"],
+        &["basis", "2", "--max-terms=0"],
+        &["basis", "2", "--max-terms", "4097"],
+        &["basis", "2", "--max-order=1000001"],
+        &["basis", "2", "--max-text", "268435457"],
+        &["basis", "2", "--tries=01"],
+        &["basis", "2", "--max-term=9"],
+        &["basis", "2", "max-terms=9"],
+        &["basis", "2", "=9"],
+        &["basis", "2="],
     ];
     for words in table {
-        let (status, taken) = clean_run(rt.alloc(), words, SWAP)?;
+        let (status, taken, line) = clean_run(rt.alloc(), words, SWAP)?;
         assert_eq!(rt; status, Status::Usage, "{words:?}");
         assert!(rt; taken.is_empty());
+        assert_eq!(rt; line.as_slice(), b"usage\n".as_slice());
     }
-    let (status, _) = clean_run(rt.alloc(), &["basis", "1000"], b"")?;
-    assert_eq!(rt; status, Status::Syntax(Place::Byte(0)));
     Ok(())
 }
 
@@ -119,7 +207,7 @@ fn refuses_near_misses(rt: HostRuntime) -> Result<(), Fail> {
         &long,
     ];
     for script in table {
-        let (status, taken) = clean_run(rt.alloc(), &["basis", "1"], script)?;
+        let (status, taken, _) = clean_run(rt.alloc(), &["basis", "1"], script)?;
         assert_eq!(rt; status, Status::Syntax(Place::Byte(0)), "{script:?}");
         assert!(rt; taken.is_empty());
     }
@@ -130,13 +218,13 @@ fn refuses_near_misses(rt: HostRuntime) -> Result<(), Fail> {
 fn tells_faults_of_the_outside(rt: HostRuntime) -> Result<(), Fail> {
     let alloc = rt.alloc();
     let words = strings(alloc, &["basis", "2"])?;
-    let table: [(&[u64], usize, &[u64], Status, &[u8]); 4] = [
-        (&[2], 64, &[], Status::ReadFault, b""),
-        (&[], 3, &[], Status::WriteFault, b"x^2"),
-        (&[], 64, &[2], Status::WriteFault, b"x^2+y"),
-        (&[9], 64, &[9], Status::Done, b"x^2+y^2\nx*y\n"),
+    let table: [(&[u64], usize, &[u64], Status, &[u8], &[u8]); 4] = [
+        (&[2], 64, &[], Status::ReadFault, b"", b"read\n"),
+        (&[], 3, &[], Status::WriteFault, b"x^2", b"write\n"),
+        (&[], 64, &[2], Status::WriteFault, b"x^2+y", b"write\n"),
+        (&[9], 64, &[9], Status::Done, b"x^2+y^2\nx*y\n", b""),
     ];
-    for (failed_reads, room, failed_writes, status, text) in table {
+    for (failed_reads, room, failed_writes, status, text, line) in table {
         let script = Vec::from_slice(alloc, SWAP)?;
         let mut source = MemSource::new(script, 16, Vec::from_slice(alloc, failed_reads)?);
         let mut output = MemSink::new(alloc, 5, Vec::from_slice(alloc, failed_writes)?, room)?;
@@ -144,7 +232,32 @@ fn tells_faults_of_the_outside(rt: HostRuntime) -> Result<(), Fail> {
         let ended = run(alloc, &words, &mut source, &mut output, &mut errors);
         assert_eq!(rt; ended, status);
         assert_eq!(rt; output.taken(), text);
-        assert_eq!(rt; errors.taken(), Some(b"".as_slice()));
+        assert_eq!(rt; errors.taken(), Some(line));
+    }
+    Ok(())
+}
+
+#[test]
+fn keeps_its_status_whatever_becomes_of_the_line(rt: HostRuntime) -> Result<(), Fail> {
+    let alloc = rt.alloc();
+    let words = strings(alloc, &["basis", "62"])?;
+    let over = BoundFault::TermBound {
+        degree: 62,
+        count: 2016,
+    };
+    let table: [(usize, usize, &[u64], &[u8]); 4] = [
+        (64, 0, &[], b""),
+        (1, 64, &[], b"bound terms 62 2016\n"),
+        (4, 15, &[], b"bound terms 62 "),
+        (12, 64, &[2], b"bound terms "),
+    ];
+    for (piece, room, failing, line) in table {
+        let mut source = CleanSource::new(Vec::from_slice(alloc, CYCLE)?);
+        let mut output = CleanSink::new(alloc, 64)?;
+        let mut errors = MemSink::new(alloc, piece, Vec::from_slice(alloc, failing)?, room)?;
+        let ended = run(alloc, &words, &mut source, &mut output, &mut errors);
+        assert_eq!(rt; ended, Status::Bound(over));
+        assert_eq!(rt; errors.taken(), line);
     }
     Ok(())
 }

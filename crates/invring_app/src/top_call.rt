@@ -3,11 +3,13 @@ ghost use Rattle.inv_outside.specs.Outside.{Rose, Gave, Took};
 ghost use Rattle.alg_core.specs.declared.limits.Limits.{Limits};
 ghost use Rattle.invring_app.specs.Commands.{IsRequest};
 ghost use Rattle.invring_app.specs.declared.words.Request.{Request};
+ghost use Rattle.invring_app.specs.ErrorLines.{error_line};
 ghost use Rattle.invring_app.specs.Outcomes.{Asks, IsPastReading, Writes, IsTermBound, count_of};
 ghost use Rattle.invring_app.specs.Outputs.{IsLines};
 ghost use Rattle.invring_app.specs.ThinScripts.{ThinScript, ThinScriptText};
 
 use crate::answer::{Refusal, answer};
+use crate::error_line::write_error;
 use crate::script::LIMIT;
 use crate::status::{BoundFault, Status};
 use crate::words::read_words;
@@ -19,7 +21,8 @@ use std::alloc::Global;
 ///
 /// Of several faults the first one is answered, in the order words, reading, script, bound,
 /// writing; `Memory` may come wherever the words are a command. All of the output is made before
-/// its first byte is written.
+/// its first byte is written. At every status but `Done` one line goes to `err`; a fault of `err`
+/// leaves the status as it is.
 pub fn run<S: Source, O: Sink, E: Sink>(
     alloc: Global,
     words: &[String],
@@ -49,7 +52,41 @@ pub fn run<S: Source, O: Sink, E: Sink>(
     ensures write { result ≡ Status.WriteFault → Rose (O.faults out.old) (O.faults out.new) }
     ensures front { result ≡ Status.WriteFault → (text : List ℕ) × (k : ℕ) × IsLines text × (k < length text) × Took (O.taken out.old) (take k text) (O.taken out.new) }
     ensures silent { ¬ Writes result → out.new ≡ out.old }
-    ensures err { err.new ≡ err.old }
+
+    // The error line: its front, all of it where `err` had no fault, and nothing where the run is done.
+    ensures line { (k : ℕ) × (k ≤ length (error_line result)) × Took (E.taken err.old) (take k (error_line result)) (E.taken err.new) }
+    ensures whole { ¬ Rose (E.faults err.old) (E.faults err.new) → Took (E.taken err.old) (error_line result) (E.taken err.new) }
+    ensures quiet { result ≡ Status.Done → err.new ≡ err.old }
+{
+    let status = work(alloc, words, src, out);
+    let _ = write_error(err, &status);
+    status
+}
+
+/// The same without the error line.
+fn work<S: Source, O: Sink>(alloc: Global, words: &[String], src: &mut S, out: &mut O) -> Status
+    // The words.
+    ensures usage { result ≡ Status.Usage ↔ ((r : Request) → ¬ IsRequest (map string_bytes words.now) r) }
+    ensures asked { result ≢ Status.Usage → (r : Request) × IsRequest (map string_bytes words.now) r }
+    ensures idle { result ≡ Status.Usage → src.new ≡ src.old }
+
+    // Reading, and what was read: at most one byte more than a script may have.
+    ensures gave { (bytes : List ℕ) × (length bytes ≤ 4097) × Gave (S.left src.old) bytes (S.left src.new) }
+    ensures read { result ≡ Status.ReadFault → Rose (S.faults src.old) (S.faults src.new) }
+    ensures place { (p : Place) → result ≡ Status.Syntax p → p ≡ Place.Byte 0 }
+    ensures syntax { (p : Place) → result ≡ Status.Syntax p → IfSome (S.left src.old) (λ bytes. (s : ThinScript) → ¬ ThinScriptText bytes s) }
+    ensures script { IsPastReading result → IfSome (S.left src.old) (λ bytes. (s : ThinScript) × ThinScriptText bytes s) }
+    ensures end { IsPastReading result → IfSome (S.left src.new) (λ rest. rest ≡ []) }
+
+    // The bound.
+    ensures bound { (f : BoundFault) (d : ℕ) (limits : Limits) (s : ThinScript) → result ≡ Status.Bound f → Asks (map string_bytes words.now) (S.left src.old) d limits s → IsTermBound f d limits.max_terms s }
+    ensures within { (d : ℕ) (limits : Limits) (s : ThinScript) → Writes result → Asks (map string_bytes words.now) (S.left src.old) d limits s → count_of d s ≤ limits.max_terms }
+
+    // What is written.
+    ensures done { result ≡ Status.Done → (text : List ℕ) × IsLines text × Took (O.taken out.old) text (O.taken out.new) }
+    ensures write { result ≡ Status.WriteFault → Rose (O.faults out.old) (O.faults out.new) }
+    ensures front { result ≡ Status.WriteFault → (text : List ℕ) × (k : ℕ) × IsLines text × (k < length text) × Took (O.taken out.old) (take k text) (O.taken out.new) }
+    ensures silent { ¬ Writes result → out.new ≡ out.old }
 {
     let request = match read_words(words) {
         Some(request) => request,

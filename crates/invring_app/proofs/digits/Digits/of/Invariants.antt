@@ -1,0 +1,8 @@
+use Rattle.invring_app.proofs.DigitLaws.{Placed}
+use Rattle.invring_app.proofs.digits.Digits.of.Given as goal
+
+abbrev pub invariant-loop-rest : goal.invariant-loop-rest
+invariant-loop-rest l = Placed l.number l.rest l.start l.bytes
+
+abbrev pub decreases-loop-rest : goal.decreases-loop-rest
+decreases-loop-rest l = l.rest

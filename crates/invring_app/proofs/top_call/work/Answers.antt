@@ -1,0 +1,37 @@
+use Rattle.std.proofs.Common.{◌≡◌, ◌≤◌, ap, Err}
+use Rattle.invring_app.specs.declared.answer.Refusal.{Refusal}
+use Rattle.invring_app.specs.declared.answer.Refusal.TheVariants as refusals
+use Rattle.invring_app.specs.Outcomes.{IsTermBound, count_of}
+use Rattle.invring_app.proofs.RunLaws.{read-is, read-no_text, asked-at, done-is, front-is}
+use Rattle.invring_app.proofs.top_call.work.Goals as goal
+
+pub returns-in-Err-Syntax-clause-syntax : goal.returns-in-Err-Syntax-clause-syntax
+returns-in-Err-Syntax-clause-syntax g c = λ p is.
+    let refusal : c.in-Err-Syntax.field-0 ≡ refusals.Syntax p = cc in
+    let read = read-is _ _ _ _ c.deref.ensures.value c.in-Ok.ensures.gave c.in-Ok.ensures.end in
+    read-no_text _ _ _ read (c.in-Err-Syntax.ensures.syntax p (ap (λ (r : Refusal). Err r) refusal)).1
+
+pub returns-in-Err-Bound-clause-bound : goal.returns-in-Err-Bound-clause-bound
+returns-in-Err-Bound-clause-bound g c = λ f d limits s is asks.
+    let refusal : c.in-Err-Bound.field-0 ≡ refusals.Bound f = cc in
+    let read = read-is _ _ _ _ c.deref.ensures.value c.in-Ok.ensures.gave c.in-Ok.ensures.end in
+    let met = c.in-Err-Bound.ensures.bound f (ap (λ (r : Refusal). Err r) refusal) in
+    asked-at (λ d l s. IsTermBound f d l.max_terms s) _ _ _ _ c.in-Some.request d c.degree-degree.result limits s met.0 read c.in-Some.ensures.some c.degree-degree.ensures.basis met.1 met.2 asks
+
+pub returns-in-Ok-write_all-clause-within : goal.returns-in-Ok-write_all-clause-within
+returns-in-Ok-write_all-clause-within g c = λ d limits s writes asks.
+    let read = read-is _ _ _ _ c.deref.ensures.value c.in-Ok.ensures.gave c.in-Ok.ensures.end in
+    let fits = c.in-Ok-answer.ensures.script in
+    asked-at (λ d l s. count_of d s ≤ l.max_terms) _ _ _ _ c.in-Some.request d c.degree-degree.result limits s fits.0 read c.in-Some.ensures.some c.degree-degree.ensures.basis fits.1 fits.2 asks
+
+pub returns-in-Ok-write_all-clause-done : goal.returns-in-Ok-write_all-clause-done
+returns-in-Ok-write_all-clause-done g c = λ is. done-is _ _ _ _ c.deref-2.ensures.value c.in-Ok-answer.ensures.lines c.in-Ok-write_all.ensures.ok
+
+pub returns-clause-within : goal.returns-clause-within
+returns-clause-within g c = λ d limits s writes asks.
+    let read = read-is _ _ _ _ c.deref.ensures.value c.in-Ok.ensures.gave c.in-Ok.ensures.end in
+    let fits = c.in-Ok-answer.ensures.script in
+    asked-at (λ d l s. count_of d s ≤ l.max_terms) _ _ _ _ c.in-Some.request d c.degree-degree.result limits s fits.0 read c.in-Some.ensures.some c.degree-degree.ensures.basis fits.1 fits.2 asks
+
+pub returns-clause-front : goal.returns-clause-front
+returns-clause-front g c = λ is. front-is _ _ _ _ c.deref-2.ensures.value c.in-Ok-answer.ensures.lines c.in-Err.ensures.err

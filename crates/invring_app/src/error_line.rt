@@ -1,0 +1,74 @@
+ghost use Rattle.std.specs.Prelude.{◌≡◌, ◌≤◌, ◌∷◌, [], ℕ, length, map, take, codes, decimal, OnOk, OnErr, IsErr};
+ghost use Rattle.inv_outside.specs.Outside.{Rose, Took};
+ghost use Rattle.invring_app.specs.ErrorLines.{line_of, error_line};
+ghost use Rattle.invring_app.specs.declared.status.Status.TheVariants as ends;
+ghost use Rattle.invring_app.specs.declared.status.BoundFault.TheVariants.{TermBound};
+
+use crate::digits::Digits;
+use crate::status::{BoundFault, Status};
+use alg_core::Place;
+use inv_outside::{Failed, Sink, write_all};
+
+/// Writes the pieces and a newline.
+fn write_line<E: Sink>(err: &mut E, pieces: &[&[u8]]) -> Result<(), Failed>
+    ensures ok { let line = line_of (map (λ p. p.now) pieces.now) in OnOk result (Took (E.taken err.old) line (E.taken err.new)) }
+    ensures err { let line = line_of (map (λ p. p.now) pieces.now) in OnErr result ((k : ℕ) × (k ≤ length line) × Took (E.taken err.old) (take k line) (E.taken err.new)) }
+    ensures cause { IsErr result → Rose (E.faults err.old) (E.faults err.new) }
+    ensures later { E.faults err.old ≤ E.faults err.new }
+{
+    for piece in pieces {
+        write_all(err, piece)?;
+    }
+    write_all(err, b"\n")
+}
+
+/// Writes the line of a place.
+fn write_place<E: Sink>(err: &mut E, place: Place) -> Result<(), Failed>
+    ensures ok { let line = error_line (ends.Syntax place) in OnOk result (Took (E.taken err.old) line (E.taken err.new)) }
+    ensures err { let line = error_line (ends.Syntax place) in OnErr result ((k : ℕ) × (k ≤ length line) × Took (E.taken err.old) (take k line) (E.taken err.new)) }
+    ensures cause { IsErr result → Rose (E.faults err.old) (E.faults err.new) }
+    ensures later { E.faults err.old ≤ E.faults err.new }
+{
+    match place {
+        Place::Byte(at) => {
+            let digits = Digits::of(u128::from(at));
+            write_line(err, &[b"syntax place ", digits.as_slice()])
+        }
+        Place::Line(at) => {
+            let digits = Digits::of(u128::from(at));
+            write_line(err, &[b"syntax line ", digits.as_slice()])
+        }
+    }
+}
+
+/// Writes the line of a degree with too many monomials.
+fn write_terms<E: Sink>(err: &mut E, degree: u32, count: u128) -> Result<(), Failed>
+    ensures ok { let line = error_line (ends.Bound (TermBound degree count)) in OnOk result (Took (E.taken err.old) line (E.taken err.new)) }
+    ensures err { let line = error_line (ends.Bound (TermBound degree count)) in OnErr result ((k : ℕ) × (k ≤ length line) × Took (E.taken err.old) (take k line) (E.taken err.new)) }
+    ensures cause { IsErr result → Rose (E.faults err.old) (E.faults err.new) }
+    ensures later { E.faults err.old ≤ E.faults err.new }
+{
+    let degree = Digits::of(u128::from(degree));
+    let count = Digits::of(count);
+    let pieces = [b"bound terms ", degree.as_slice(), b" ", count.as_slice()];
+    write_line(err, &pieces)
+}
+
+/// Writes the line of a status. It takes no memory.
+pub(crate) fn write_error<E: Sink>(err: &mut E, status: &Status) -> Result<(), Failed>
+    ensures ok { OnOk result (Took (E.taken err.old) (error_line status.now) (E.taken err.new)) }
+    ensures err { OnErr result ((k : ℕ) × (k ≤ length (error_line status.now)) × Took (E.taken err.old) (take k (error_line status.now)) (E.taken err.new)) }
+    ensures cause { IsErr result → Rose (E.faults err.old) (E.faults err.new) }
+    ensures later { E.faults err.old ≤ E.faults err.new }
+    ensures quiet { status.now ≡ ends.Done → err.new ≡ err.old }
+{
+    match status {
+        Status::Done => Ok(()),
+        Status::Usage => write_line(err, &[b"usage"]),
+        Status::Syntax(place) => write_place(err, *place),
+        Status::Bound(BoundFault::TermBound { degree, count }) => write_terms(err, *degree, *count),
+        Status::ReadFault => write_line(err, &[b"read"]),
+        Status::WriteFault => write_line(err, &[b"write"]),
+        Status::Memory => write_line(err, &[b"memory"]),
+    }
+}
