@@ -3,18 +3,24 @@
 #![tactic(auto)]
 
 use inv_outside::{StdSink, StdSource};
-use invring_app::{Status, run};
+use invring_app::{Status, run, write_error};
 use std::process::ExitCode;
 use std::{env, io};
 
 fn main(rt: HostRuntime) -> ExitCode {
     let status = match words(&rt) {
         Ok(words) => work(&rt, &words),
-        Err(error) if error.kind() == io::ErrorKind::OutOfMemory => Status::Memory,
+        Err(error) if error.kind() == io::ErrorKind::OutOfMemory => refused(&rt, Status::Memory),
         // A word that is no text is no word of a command.
-        Err(_) => Status::Usage,
+        Err(_) => refused(&rt, Status::Usage),
     };
     ExitCode::from(status.code())
+}
+
+/// The end of a run whose words could not be read.
+fn refused(rt: &HostRuntime, status: Status) -> Status {
+    let _ = write_error(&mut StdSink::new(rt.stderr()), &status);
+    status
 }
 
 /// The words after the program's name.

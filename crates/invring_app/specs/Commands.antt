@@ -8,7 +8,7 @@
 --   IsInRange a v        v is in that range
 --   IsPart ws part       the words write the part, and its value is in its range
 --   AreParts ws parts    the words write the parts, one after another
---   place a              the number of an argument
+--   place a              the row of an argument in this list, by which two arguments are told apart
 --   values a parts       the values that the parts have for the argument, in their order
 --   IsChosen vs d v      v is the only one of the values vs, or the default d where there is none
 --   command_name c       the word for a command

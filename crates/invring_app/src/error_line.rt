@@ -55,7 +55,7 @@ fn write_terms<E: Sink>(err: &mut E, degree: u32, count: u128) -> Result<(), Fai
 }
 
 /// Writes the line of a status. It takes no memory.
-pub(crate) fn write_error<E: Sink>(err: &mut E, status: &Status) -> Result<(), Failed>
+pub fn write_error<E: Sink>(err: &mut E, status: &Status) -> Result<(), Failed>
     ensures ok { OnOk result (Took (E.taken err.old) (error_line status.now) (E.taken err.new)) }
     ensures err { OnErr result ((k : ℕ) × (k ≤ length (error_line status.now)) × Took (E.taken err.old) (take k (error_line status.now)) (E.taken err.new)) }
     ensures cause { IsErr result → Rose (E.faults err.old) (E.faults err.new) }

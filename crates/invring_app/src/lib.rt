@@ -18,6 +18,7 @@ mod status;
 mod top_call;
 mod words;
 
+pub use error_line::write_error;
 pub use status::{BoundFault, Status};
 pub use top_call::run;
 pub use words::{Command, Request, words_ask_once};

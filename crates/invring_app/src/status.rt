@@ -5,7 +5,7 @@ use alg_core::Place;
 /// A bound of the program that was met.
 #[derive(Clone, Copy, Debug, PartialEq, Eq)]
 pub enum BoundFault {
-    /// A degree was needed that has more than 2000 monomials.
+    /// A degree was needed that has more monomials than the limit.
     TermBound { degree: u32, count: u128 },
 }
 

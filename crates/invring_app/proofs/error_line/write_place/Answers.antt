@@ -1,8 +1,8 @@
-use Rattle.std.proofs.Common.{◌≡◌, ◌∷◌, [], sym, ap, ◌∙◌}
+use Rattle.std.proofs.Common.{sym, ap, ◌∙◌}
 use Rattle.std.specs.Prelude.{codes}
 use Rattle.alg_core.specs.declared.place.Place.{Place}
 use Rattle.invring_app.specs.declared.status.Status.TheVariants as ends
-use Rattle.invring_app.specs.ErrorLines.{line_of, error_line}
+use Rattle.invring_app.specs.ErrorLines.{error_line}
 use Rattle.invring_app.proofs.LineLaws.{ok-line, err-line, numbered-line}
 use Rattle.invring_app.proofs.error_line.write_place.Goals as goal
 
