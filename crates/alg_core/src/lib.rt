@@ -6,6 +6,7 @@ mod dp;
 mod elimination_order;
 mod exponents;
 mod field;
+mod input_fault;
 mod laws;
 mod limits;
 mod memory;
@@ -26,6 +27,7 @@ pub use dp::Dp;
 pub use elimination_order::ElimOrder;
 pub use exponents::weighted_degree;
 pub use field::Field;
+pub use input_fault::InputFault;
 pub use laws::{
     common_multiples, finite_degrees, fitting_lists, linear_functions, vector_sums, vector_terms,
     vectors_are_maps,

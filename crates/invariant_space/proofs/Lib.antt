@@ -1,0 +1,15 @@
+pub mod RowPolynomials
+pub mod EchelonRows
+pub mod InvariantEquations
+pub mod EchelonBasis
+pub mod BinomialLaws
+pub mod ListLaws
+pub mod LevelLaws
+pub mod MonomialDegrees
+pub mod Images
+pub mod InsertionLaws
+pub mod RowSteps
+pub mod SpreadLaws
+pub mod EquationSteps
+pub mod BlockLaws
+pub mod KernelBases

@@ -1,2 +1,16 @@
 //! The echelon basis of the invariants of one degree.
 #![tactic(auto)]
+
+mod columns;
+mod count;
+mod equations;
+mod fault;
+mod invariants;
+mod levels;
+mod polynomials;
+mod sorted;
+#[cfg(test)]
+mod tests;
+
+pub use fault::SpaceFault;
+pub use invariants::basis;

@@ -1,4 +1,4 @@
-pub mod BinomialLaws
+pub mod BasisLaws
 pub mod CommandLaws
 pub mod DigitLaws
 pub mod Fronts

@@ -63,3 +63,12 @@ done-is before after text slice same lines took = (slice, subst IsLines (sym sam
 pub front-is : (before after : Option (List ℕ)) (text slice : List ℕ) → slice ≡ text → IsLines text → (k : ℕ) × (k < length slice) × Took before (take k slice) after
     → (whole : List ℕ) × (k : ℕ) × IsLines whole × (k < length whole) × Took before (take k whole) after
 front-is before after text slice same lines front = (slice, front.0, subst IsLines (sym same) lines, front.1, front.2)
+
+-- what was read is a text, so what the source had left was one
+pub read-some : (left left' : Option (List ℕ)) (bytes : List ℕ) (s : ThinScript) → Read left bytes left' → ThinScriptText bytes s → IfSome left (λ whole. (s : ThinScript) × ThinScriptText whole s)
+read-some None left' bytes s read text = tt
+read-some (Some whole) None bytes s read text = absurd read.gave
+read-some (Some whole) (Some rest) bytes s read text =
+    let nothing : rest ≡ [] = read.end text.short in
+    let same : whole ≡ bytes = read.gave ∙ ap (λ t. bytes ++ t) nothing ∙ append-nil bytes in
+    (s, subst (λ (t : List ℕ). ThinScriptText t s) (sym same) text)

@@ -1,14 +1,15 @@
 ghost use Rattle.std.specs.Prelude.{◌≡◌, ◌<◌, ◌≤◌, Err, IfOk, OnOk};
 ghost use Rattle.invring_app.specs.Outcomes.{count_of, IsTermBound};
+ghost use Rattle.invring_app.specs.Bases.{IsBasisText};
 ghost use Rattle.invring_app.specs.Outputs.{IsLines};
 ghost use Rattle.invring_app.specs.ThinScripts.{ThinScript, ThinScriptText};
 
 use crate::basis::basis_text;
-use crate::count::monomial_count;
 use crate::fault::ReadError;
 use crate::script::read_script;
 use crate::status::BoundFault;
 use alg_core::{Memory, Place};
+use invariant_space::SpaceFault;
 use std::alloc::Global;
 
 /// Why there is no answer to a script.
@@ -44,8 +45,23 @@ impl From<ReadError> for Refusal {
     }
 }
 
-/// The basis of this degree for the script that the bytes are a text of, one line for each of its
-/// polynomials.
+impl From<SpaceFault> for Refusal {
+    ghost use Rattle.invring_app.specs.Refusals.{refusal_of_space};
+    ghost use Rattle.std.specs.Prelude.{◌≡◌};
+
+    ghost from_gives = { λ e r. r ≡ refusal_of_space e };
+
+    fn from(fault: SpaceFault) -> Refusal {
+        match fault {
+            SpaceFault::TermBound { degree, count } => {
+                Refusal::Bound(BoundFault::TermBound { degree, count })
+            }
+            SpaceFault::Memory => Refusal::Memory,
+        }
+    }
+}
+
+/// The lines of the basis of this degree for the script that the bytes are a text of.
 pub(crate) fn answer(
     alloc: Global,
     degree: u32,
@@ -53,17 +69,13 @@ pub(crate) fn answer(
     bytes: &[u8],
 ) -> Result<Vec<u8>, Refusal>
     requires degree { degree ≤ 1000 }
-    requires max_terms { max_terms ≤ 4096 }
     ensures lines { IfOk result (λ text. IsLines text.items) }
     ensures script { OnOk result ((s : ThinScript) × ThinScriptText bytes.now s × (count_of degree s ≤ max_terms)) }
+    ensures basis { IfOk result (λ text. (s : ThinScript) × ThinScriptText bytes.now s × (count_of degree s ≤ max_terms) × IsBasisText s degree text.items) }
     ensures syntax { (place : Place) → result ≡ Err (Refusal.Syntax place) → (place ≡ Place.Byte 0) × ((s : ThinScript) → ¬ ThinScriptText bytes.now s) }
     ensures bound { (fault : BoundFault) → result ≡ Err (Refusal.Bound fault) → (s : ThinScript) × ThinScriptText bytes.now s × IsTermBound fault degree max_terms s }
 {
     let script = read_script(alloc, bytes)?;
-    let count = monomial_count(script.names.len() as u32, degree);
-    if count > u128::from(max_terms) {
-        return Err(Refusal::Bound(BoundFault::TermBound { degree, count }));
-    }
-    let text = basis_text(alloc, &script.field, &script.names, &script.cells, degree)?;
+    let text = basis_text(alloc, script, degree, max_terms)?;
     Ok(text)
 }

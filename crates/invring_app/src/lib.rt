@@ -5,7 +5,6 @@ mod answer;
 mod arguments;
 mod basis;
 mod cells;
-mod count;
 mod digits;
 mod error_line;
 mod fault;

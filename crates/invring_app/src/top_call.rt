@@ -5,6 +5,7 @@ ghost use Rattle.invring_app.specs.Commands.{IsRequest};
 ghost use Rattle.invring_app.specs.declared.words.Request.{Request};
 ghost use Rattle.invring_app.specs.ErrorLines.{error_line};
 ghost use Rattle.invring_app.specs.Outcomes.{Asks, IsPastReading, Writes, IsTermBound, count_of};
+ghost use Rattle.invring_app.specs.Bases.{IsBasisText};
 ghost use Rattle.invring_app.specs.Outputs.{IsLines};
 ghost use Rattle.invring_app.specs.ThinScripts.{ThinScript, ThinScriptText};
 
@@ -49,8 +50,12 @@ pub fn run<S: Source, O: Sink, E: Sink>(
 
     // What is written.
     ensures done { result ≡ Status.Done → (text : List ℕ) × IsLines text × Took (O.taken out.old) text (O.taken out.new) }
+    ensures basis { (d : ℕ) (limits : Limits) (s : ThinScript) → result ≡ Status.Done → Asks (map string_bytes words.now) (S.left src.old) d limits s
+        → (text : List ℕ) × IsBasisText s d text × Took (O.taken out.old) text (O.taken out.new) }
     ensures write { result ≡ Status.WriteFault → Rose (O.faults out.old) (O.faults out.new) }
     ensures front { result ≡ Status.WriteFault → (text : List ℕ) × (k : ℕ) × IsLines text × (k < length text) × Took (O.taken out.old) (take k text) (O.taken out.new) }
+    ensures basis_front { (d : ℕ) (limits : Limits) (s : ThinScript) → result ≡ Status.WriteFault → Asks (map string_bytes words.now) (S.left src.old) d limits s
+        → (text : List ℕ) × (k : ℕ) × IsBasisText s d text × (k < length text) × Took (O.taken out.old) (take k text) (O.taken out.new) }
     ensures silent { ¬ Writes result → out.new ≡ out.old }
 
     // The error line: its front, all of it where `err` had no fault, and nothing where the run is done.
@@ -84,8 +89,12 @@ fn work<S: Source, O: Sink>(alloc: Global, words: &[String], src: &mut S, out: &
 
     // What is written.
     ensures done { result ≡ Status.Done → (text : List ℕ) × IsLines text × Took (O.taken out.old) text (O.taken out.new) }
+    ensures basis { (d : ℕ) (limits : Limits) (s : ThinScript) → result ≡ Status.Done → Asks (map string_bytes words.now) (S.left src.old) d limits s
+        → (text : List ℕ) × IsBasisText s d text × Took (O.taken out.old) text (O.taken out.new) }
     ensures write { result ≡ Status.WriteFault → Rose (O.faults out.old) (O.faults out.new) }
     ensures front { result ≡ Status.WriteFault → (text : List ℕ) × (k : ℕ) × IsLines text × (k < length text) × Took (O.taken out.old) (take k text) (O.taken out.new) }
+    ensures basis_front { (d : ℕ) (limits : Limits) (s : ThinScript) → result ≡ Status.WriteFault → Asks (map string_bytes words.now) (S.left src.old) d limits s
+        → (text : List ℕ) × (k : ℕ) × IsBasisText s d text × (k < length text) × Took (O.taken out.old) (take k text) (O.taken out.new) }
     ensures silent { ¬ Writes result → out.new ≡ out.old }
 {
     let request = match read_words(words) {

@@ -84,7 +84,7 @@ module _ {E : Type 0} (k : FieldOn E) (o : OrderOn Key) where
           subst (λ u. o.compare u s ≡ Less) there (subst (λ u. o.compare r.0.1 u ≡ Less) here (a.1 r.0 r.1).0)
 
   -- rows are a reduced echelon list of their span
-  echelon_rows : (vs : List (Vect k)) (l : List (Row k)) → RowsOf k o vs l → IsEchelon k o (Spans k vs) (rows k l)
+  pub echelon_rows : (vs : List (Vect k)) (l : List (Row k)) → RowsOf k o vs l → IsEchelon k o (Spans k vs) (rows k l)
   echelon_rows vs l h = record {
     reduced = record {
       inside = λ v i. h.inside v (span_member (vectors k) (rows k l) v i);

@@ -9,16 +9,26 @@
 --   exponents_from names n i fs   the exponents at the n places from i on
 --   is_printed p t          the sign and the coefficient are the printed ones of a class modulo p: at most (p-1)/2; for
 --                           p = 2 it is 1 without a sign
+--   value_of p t            the value modulo p
 --   entry_of S names t      the value and the place of a term
 --   falls S before t        the term is smaller than the one before it, where there is one
+--   are_known, are_within, are_small   of each factor: the variable is known, its index within; the exponent at most 4096
+--   places names fs         the places of the variables of the factors
+--   factor_conditions names fs, term_conditions p names t, place_conditions S before here   the conditions on the
+--                           factors, with the one on the coefficient, and those on the place, with their kinds, in order
 --   conditions S names before t   each condition on a term with its kind, in order
 --   first_failed cs         the kind of the first condition that does not hold
 --   fault_or i kind rest    the fault at term i, where there is one, else the rest
 --   first_fault S names before i ts   the first term, counted from i, at which a condition fails, and the kind of the first
+--   last_from before es     the place of the last entry, or the one given where there is no entry
+--   last_place es           the place of the last entry, where there is one
+--   IsFault e fault         the error tells this fault, or that memory was refused
+--   Faults result fault     the result is an answer where there is no fault, and else the fault, unless memory was refused
+--   AreDistinct names       no name stands twice among the names
 --   IsIndexed v             a name, or an index of at most 5 digits
 --   IsReadable S names e    degree and exponents are at most 4096, and each variable that occurs IsIndexed
-use Rattle.std.specs.Prelude.{◌≡◌, ◌≢◌, ◌≤◌, ◌<◌, ℕ, zero, suc, ◌+◌, ◌-◌, ◌*◌, Bool, true, false, ◌&&◌, not, ◌==◌, nat_le, nat_lt, List, [], ◌∷◌, length, map, All, get_or, Option, Some, None, if◌then◌else◌}
-use Rattle.std.specs.List.{list_all, position}
+use Rattle.std.specs.Prelude.{◌≡◌, ◌≢◌, ◌≤◌, ◌<◌, ℕ, zero, suc, ◌+◌, ◌-◌, ◌*◌, Bool, true, false, ◌&&◌, not, ◌==◌, nat_le, nat_lt, List, [], ◌∷◌, ◌++◌, length, map, All, get_or, Option, Some, None, Result, Ok, Err, if◌then◌else◌}
+use Rattle.std.specs.List.{list_all, position, AllPairs}
 use Rattle.std.specs.Str.{bytes_eq}
 use Rattle.std.specs.Option.{is_some}
 use Rattle.std.specs.Ordering.{is_gt}
@@ -28,6 +38,8 @@ use Rattle.alg_core.specs.Spaces.{SpaceOver}
 use Rattle.alg_core.specs.Vectors.{Entry}
 use Rattle.alg_core.specs.declared.value_kind.ValueKind.{ValueKind}
 use Rattle.alg_core.specs.declared.value_kind.ValueKind.TheVariants as kinds
+use Rattle.poly_text.specs.declared.fault.TextFault.{TextFault}
+use Rattle.poly_text.specs.declared.fault.TextFault.TheVariants as faults
 use Rattle.poly_text.specs.declared.names.Names.{Names}
 use Rattle.poly_text.specs.declared.syntax.Mark.TheVariants.{Primary, Irreducible, Secondary}
 use Rattle.poly_text.specs.Syntax.{Variable, Named, Marked, Factor, Term}
@@ -70,23 +82,43 @@ exponents_from names (suc n) i fs = exponent_at names fs i ∷ exponents_from na
 abbrev pub is_printed : ℕ → Term → Bool
 is_printed p t = if p == 2 then (not t.is_negative && nat_le t.coefficient 1) else nat_le (2 * t.coefficient + 1) p
 
+abbrev pub value_of : ℕ → Term → ℕ
+value_of p t = if t.is_negative then p - t.coefficient else t.coefficient
+
 abbrev pub entry_of : SpaceOver ℕ → Names → Term → Entry ℕ
-entry_of S names t = ((0, exponents_from names (place_count names) 0 t.factors), if t.is_negative then S.field.characteristic - t.coefficient else t.coefficient)
+entry_of S names t = ((0, exponents_from names (place_count names) 0 t.factors), value_of S.field.characteristic t)
 
 abbrev pub falls : SpaceOver ℕ → Option Place → Place → Bool
 falls S None here = true
 falls S (Some before) here = is_gt (S.order.compare before here)
 
+abbrev pub are_known : Names → List Factor → Bool
+are_known names fs = list_all (λ f. is_known names f.variable) fs
+
+abbrev pub are_within : Names → List Factor → Bool
+are_within names fs = list_all (λ f. is_within names f.variable) fs
+
+abbrev pub places : Names → List Factor → List ℕ
+places names fs = map (λ f. place names f.variable) fs
+
+abbrev pub are_small : List Factor → Bool
+are_small fs = list_all (λ f. nat_le f.exponent 4096) fs
+
+abbrev pub factor_conditions : Names → List Factor → List (Bool × ValueKind)
+factor_conditions names fs =
+    (are_known names fs, kinds.Name)
+    ∷ (are_within names fs, kinds.Index)
+    ∷ (rise (places names fs), kinds.Factor)
+    ∷ (are_small fs, kinds.Exponent) ∷ []
+
+abbrev pub term_conditions : ℕ → Names → Term → List (Bool × ValueKind)
+term_conditions p names t = factor_conditions names t.factors ++ ((is_printed p t, kinds.Coefficient) ∷ [])
+
+abbrev pub place_conditions : SpaceOver ℕ → Option Place → Place → List (Bool × ValueKind)
+place_conditions S before here = (nat_le (weighted_degree S.weights here.1) 4096, kinds.Degree) ∷ (falls S before here, kinds.Order) ∷ []
+
 abbrev pub conditions : SpaceOver ℕ → Names → Option Place → Term → List (Bool × ValueKind)
-conditions S names before t =
-    let here : Place = (entry_of S names t).0 in
-    (list_all (λ f. is_known names f.variable) t.factors, kinds.Name)
-    ∷ (list_all (λ f. is_within names f.variable) t.factors, kinds.Index)
-    ∷ (rise (map (λ f. place names f.variable) t.factors), kinds.Factor)
-    ∷ (list_all (λ f. nat_le f.exponent 4096) t.factors, kinds.Exponent)
-    ∷ (is_printed S.field.characteristic t, kinds.Coefficient)
-    ∷ (nat_le (weighted_degree S.weights here.1) 4096, kinds.Degree)
-    ∷ (falls S before here, kinds.Order) ∷ []
+conditions S names before t = term_conditions S.field.characteristic names t ++ place_conditions S before (entry_of S names t).0
 
 abbrev pub first_failed : List (Bool × ValueKind) → Option ValueKind
 first_failed [] = None
@@ -99,6 +131,25 @@ fault_or i None rest = rest
 abbrev pub first_fault : SpaceOver ℕ → Names → Option Place → ℕ → List Term → Option (ℕ × ValueKind)
 first_fault S names before i [] = None
 first_fault S names before i (t ∷ ts) = fault_or i (first_failed (conditions S names before t)) (first_fault S names (Some (entry_of S names t).0) (suc i) ts)
+
+abbrev pub last_from : Option Place → List (Entry ℕ) → Option Place
+last_from before [] = before
+last_from before (e ∷ es) = last_from (Some e.0) es
+
+abbrev pub last_place : List (Entry ℕ) → Option Place
+last_place es = last_from None es
+
+abbrev pub IsFault : TextFault → Option (ℕ × ValueKind) → Type 0
+IsFault (faults.Syntax n) fault = ⊥
+IsFault (faults.Value i kind) fault = fault ≡ Some (i, kind)
+IsFault faults.Memory fault = Unit {0}
+
+abbrev pub Faults : {A : Type 0} → Result A TextFault → Option (ℕ × ValueKind) → Type 0
+Faults (Ok x) fault = fault ≡ None
+Faults (Err e) fault = IsFault e fault
+
+abbrev pub AreDistinct : Names → Type 0
+AreDistinct names = AllPairs (λ v w. v ≢ w) names.vars.items
 
 abbrev pub IsIndexed : Variable → Type 0
 IsIndexed (Named w) = Unit {0}

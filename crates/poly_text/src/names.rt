@@ -1,3 +1,6 @@
+ghost use Rattle.std.specs.Prelude.{IsTrue, All};
+ghost use Rattle.alg_core.specs.Names.{is_name};
+
 use alg_core::Name;
 
 /// The variables of a text, in the order of the exponents: first the names, then `@1`, `@2`, .. as many as there are
@@ -8,4 +11,16 @@ pub struct Names {
     pub vars: Vec<Name>,
     pub primaries: Option<u64>,
     pub irreducibles: Option<u64>,
+}
+
+impl Names {
+    /// Tells of all names what each one keeps: that it is a name. It does nothing else.
+    pub(crate) fn tell(&self)
+        ensures names { All (λ w. IsTrue (is_name w)) self.now.vars.items }
+    {
+        for i in 0..self.vars.len() {
+            let name = &self.vars[i];
+            let _ = name.bytes();
+        }
+    }
 }

@@ -1,8 +1,10 @@
-use Rattle.std.proofs.Common.{◌≡◌, ◌≤◌, ap, Err}
+use Rattle.std.proofs.Common.{◌≡◌, ◌≤◌, ◌<◌, ℕ, List, length, take, sym, subst, ap, Err}
+use Rattle.inv_outside.specs.Outside.{Took}
+use Rattle.invring_app.specs.Bases.{IsBasisText}
 use Rattle.invring_app.specs.declared.answer.Refusal.{Refusal}
 use Rattle.invring_app.specs.declared.answer.Refusal.TheVariants as refusals
 use Rattle.invring_app.specs.Outcomes.{IsTermBound, count_of}
-use Rattle.invring_app.proofs.RunLaws.{read-is, read-no_text, asked-at, done-is, front-is}
+use Rattle.invring_app.proofs.RunLaws.{read-is, read-no_text, read-some, asked-at, done-is, front-is}
 use Rattle.invring_app.proofs.top_call.work.Goals as goal
 
 pub returns-in-Err-Syntax-clause-syntax : goal.returns-in-Err-Syntax-clause-syntax
@@ -35,3 +37,33 @@ returns-clause-within g c = λ d limits s writes asks.
 
 pub returns-clause-front : goal.returns-clause-front
 returns-clause-front g c = λ is. front-is _ _ _ _ c.deref-2.ensures.value c.in-Ok-answer.ensures.lines c.in-Err.ensures.err
+
+pub returns-in-Ok-write_all-clause-basis : goal.returns-in-Ok-write_all-clause-basis
+returns-in-Ok-write_all-clause-basis g c = λ d limits s is asks.
+    let read = read-is _ _ _ _ c.deref.ensures.value c.in-Ok.ensures.gave c.in-Ok.ensures.end in
+    let fits = c.in-Ok-answer.ensures.basis in
+    asked-at (λ d l s. (text : List ℕ) × IsBasisText s d text × Took (g.O.Sink.taken c.args.out.now) text (g.O.Sink.taken c.write_all.new.sink)) _ _ _ _ c.in-Some.request d c.degree-degree.result limits s fits.0 read c.in-Some.ensures.some c.degree-degree.ensures.basis fits.1
+      (c.deref-2.result.now, subst (IsBasisText fits.0 c.degree-degree.result) (sym c.deref-2.ensures.value) fits.3, c.in-Ok-write_all.ensures.ok) asks
+
+pub returns-clause-basis_front : goal.returns-clause-basis_front
+returns-clause-basis_front g c = λ d limits s is asks.
+    let read = read-is _ _ _ _ c.deref.ensures.value c.in-Ok.ensures.gave c.in-Ok.ensures.end in
+    let fits = c.in-Ok-answer.ensures.basis in
+    let front = c.in-Err.ensures.err in
+    asked-at (λ d l s. (text : List ℕ) × (k : ℕ) × IsBasisText s d text × (k < length text) × Took (g.O.Sink.taken c.args.out.now) (take k text) (g.O.Sink.taken c.write_all.new.sink)) _ _ _ _ c.in-Some.request d c.degree-degree.result limits s fits.0 read c.in-Some.ensures.some c.degree-degree.ensures.basis fits.1
+      (c.deref-2.result.now, front.0, subst (IsBasisText fits.0 c.degree-degree.result) (sym c.deref-2.ensures.value) fits.3, front.1, front.2) asks
+
+pub returns-in-Ok-write_all-clause-script : goal.returns-in-Ok-write_all-clause-script
+returns-in-Ok-write_all-clause-script g c = λ past.
+    let read = read-is _ _ _ _ c.deref.ensures.value c.in-Ok.ensures.gave c.in-Ok.ensures.end in
+    let fits = c.in-Ok-answer.ensures.script in
+    read-some _ _ _ fits.0 read fits.1
+
+pub returns-clause-script : goal.returns-clause-script
+returns-clause-script g c = λ past.
+    let read = read-is _ _ _ _ c.deref.ensures.value c.in-Ok.ensures.gave c.in-Ok.ensures.end in
+    let fits = c.in-Ok-answer.ensures.script in
+    read-some _ _ _ fits.0 read fits.1
+
+pub returns-clause-usage : goal.returns-clause-usage
+returns-clause-usage g c = (λ is. absurd cc, λ none. absurd (none c.in-Some.request c.in-Some.ensures.some))

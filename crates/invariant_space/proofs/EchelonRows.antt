@@ -1,0 +1,146 @@
+-- Rows in reduced echelon form are a reduced echelon list of polynomials.
+use Rattle.std.proofs.Common.{◌≡◌, ◌↔◌, ℕ, suc, ◌<◌, ◌≤◌, inl, inr, List, [], ◌∷◌, length, map, slice_index_or, sym, ap, ap₂, ◌∙◌, refl, subst, arith}
+use Rattle.std.proofs.lemmas.List.{get_or_default}
+use Rattle.std.specs.List.{AllByRecursion as Each}
+use Rattle.std.specs.declared.cmp.Ordering.TheVariants.{Less}
+use native.Mathlib.Decide.{dec_le}
+use Rattle.alg_core.specs.Rings.{Ring, Module, Linear}
+use Rattle.alg_core.specs.ModuleLaws as modules
+use Rattle.alg_core.specs.Fields.{FieldOn, Scalar, scalars, is_field}
+use Rattle.alg_core.specs.Monomials.{monomials}
+use Rattle.alg_core.specs.Keys.{Key}
+use Rattle.alg_core.specs.KeyOrders.{OrderOn}
+use Rattle.alg_core.specs.Lists.{In}
+use Rattle.alg_core.specs.Vectors.{Vect, vectors, coef_at}
+use Rattle.poly_module.specs.Spans as lists
+use Rattle.poly_module.specs.Parts.{Supp}
+use Rattle.poly_module.specs.Echelons.{Spans, IsEchelon}
+use Rattle.poly_module.proofs.SpanLaws as list_spans
+use Rattle.poly_module.proofs.EchelonLists.{Row, AreRows, IsRow}
+use Rattle.poly_module.proofs.EchelonLists as echelons
+use Rattle.poly_module.proofs.Echelon as echelon
+use Rattle.lin_algebra.specs.Vectors.{vectors as columns}
+use Rattle.lin_algebra.specs.Spans.{combination, InSpan}
+use Rattle.lin_algebra.specs.Echelons.{PivotRow, rows, IsPivotRow, Precedes, IsReducedEchelon}
+use Rattle.lin_algebra.proofs.SpanLaws.{span_member}
+use Rattle.invariant_space.specs.Equations.{Falls, row_polynomial, coordinates}
+use Rattle.invariant_space.proofs.RowPolynomials.{each_in, falls_at, row_polynomial_linear, row_keys, coef_row, coordinates_row_all, row_coordinates, row_lead}
+
+module _ {K : Type 0} {R : Ring K} {A B : Type 0} (X : Module R A) (Y : Module R B) where
+  -- a linear function takes combinations to combinations, here with the list of their coefficients
+  pub span_of_combination : (f : A → B) → Linear X Y f → (c : ℕ → K) (ws : List A) → lists.InSpan Y (map f ws) (f (combination X c ws))
+  span_of_combination f l c [] = subst (lists.InSpan Y []) (sym (modules.linear_zero X Y f l)) (list_spans.span_zero Y [])
+  span_of_combination f l c (w ∷ ws) =
+      let rest = span_of_combination f l (λ i. c (suc i)) ws in
+      (c 0 ∷ rest.0, ap suc rest.1, ap₂ Y.◌+◌ (sym (l.act (c 0) w)) rest.2 ∙ sym (l.add _ _))
+
+module _ {E : Type 0} (k : FieldOn E) (o : OrderOn Key) where
+  -- a reduced echelon list of a set is one of each smaller set that has its members
+  pub echelon_within : (U W : Vect k → Type 0) (vs : List (Vect k)) → ((v : Vect k) → In v vs → U v) → ((v : Vect k) → U v → W v) → IsEchelon k o W vs → IsEchelon k o U vs
+  echelon_within U W vs inside within e = record {
+    reduced = record {
+      inside = inside;
+      lead = e.reduced.lead;
+      monic = e.reduced.monic;
+      covers = λ v t u. e.reduced.covers v t (within v u);
+      apart = e.reduced.apart;
+      falling = e.reduced.falling;
+    };
+    spans = λ v u. e.spans v (within v u);
+  }
+
+  module _ (ts : List Key) (falls : Falls o ts) where
+    -- the row as a polynomial, with the key of its pivot
+    abbrev key_at : ℕ → Key
+    key_at p = slice_index_or ts p (0, monomials.one)
+
+    abbrev polynomial_row : PivotRow (Scalar k) → Row k
+    polynomial_row e = (row_polynomial k ts e.1, key_at e.0)
+
+    abbrev Past : (ℕ → Scalar k) → Type 0
+    Past w = (j : ℕ) → length ts ≤ j → w j ≡ (scalars k).zero
+
+    key_is : (p : ℕ) → p < length ts → slice_index_or ts p (key_at p) ≡ key_at p
+    key_is p h = get_or_default ts p _ _ h
+
+    -- a pivot is the place of a key
+    pivot_inside : (e : PivotRow (Scalar k)) → IsPivotRow (scalars k) e → Past e.1 → e.0 < length ts
+    pivot_inside e r past = go (dec_le (suc e.0) (length ts))
+      where
+        go : Dec (suc e.0 ≤ length ts) → e.0 < length ts
+        go (yes h) = omega arith
+        go (no n) = absurd ((is_field k).one_not_zero (sym r.at ∙ past e.0 (omega (arith, n))))
+
+    is_row : (e : PivotRow (Scalar k)) → IsPivotRow (scalars k) e → Past e.1 → IsRow k o (polynomial_row e)
+    is_row e r past =
+        let h = pivot_inside e r past in record {
+          lead = row_lead k o ts falls e.1 e.0 (key_at e.0) r.before (λ z. (is_field k).one_not_zero (sym r.at ∙ z)) h (key_is e.0 h);
+          monic = coef_row k o ts falls e.1 e.0 (key_at e.0) h (key_is e.0 h) ∙ r.at;
+        }
+
+    abbrev Good : PivotRow (Scalar k) → Type 0
+    Good e = IsPivotRow (scalars k) e × Past e.1
+
+    abbrev Apart : Row k → Row k → Type 0
+    Apart e f = (o.compare f.1 e.1 ≡ Less) × (coef_at k e.0 f.1 ≡ (scalars k).zero) × (coef_at k f.0 e.1 ≡ (scalars k).zero)
+
+    rows_apart : (e f : PivotRow (Scalar k)) → Good e → Good f → Precedes (scalars k) e f → Apart (polynomial_row e) (polynomial_row f)
+    rows_apart e f g h p =
+        let a = pivot_inside e g.0 g.1 in
+        let b = pivot_inside f h.0 h.1 in (
+          falls_at o ts falls e.0 f.0 _ _ p.rises b (key_is e.0 a) (key_is f.0 b),
+          coef_row k o ts falls e.1 f.0 _ b (key_is f.0 b) ∙ p.clear,
+          coef_row k o ts falls f.1 e.0 _ a (key_is e.0 a) ∙ h.0.before e.0 p.rises,
+        )
+
+    each_apart : (e : PivotRow (Scalar k)) → Good e → (l : List (PivotRow (Scalar k))) → IsReducedEchelon (scalars k) l → Each (λ f. Past f.1) l → Each (Precedes (scalars k) e) l → (f : Row k) → In f (map polynomial_row l) → Apart (polynomial_row e) f
+    each_apart e g [] r past p f i = absurd i
+    each_apart e g (x ∷ l) r past p f (inl q) = subst (Apart (polynomial_row e)) q (rows_apart e x g (r.0, past.0) p.0)
+    each_apart e g (x ∷ l) r past p f (inr i) = each_apart e g l r.2 past.1 p.1 f i
+
+    are_rows : (l : List (PivotRow (Scalar k))) → IsReducedEchelon (scalars k) l → Each (λ f. Past f.1) l → AreRows k o (map polynomial_row l)
+    unfolding AreRows
+    are_rows [] r past = tt
+    are_rows (e ∷ l) r past = (is_row e r.0 past.0, each_apart e (r.0, past.0) l r.2 past.1 r.1, are_rows l r.2 past.1)
+
+    -- the polynomials of the rows
+    abbrev polynomials : List (PivotRow (Scalar k)) → List (Vect k)
+    polynomials l = map (row_polynomial k ts) (rows (scalars k) l)
+
+    polynomials_of_rows : (l : List (PivotRow (Scalar k))) → echelons.rows k (map polynomial_row l) ≡ polynomials l
+    polynomials_of_rows [] = refl
+    polynomials_of_rows (e ∷ l) = ap (λ vs. row_polynomial k ts e.1 ∷ vs) (polynomials_of_rows l)
+
+    echelon_of_rows : (l : List (Row k)) → AreRows k o l → IsEchelon k o (Spans k (echelons.rows k l)) (echelons.rows k l)
+    echelon_of_rows l a = echelon.echelon_rows k o (echelons.rows k l) l (record { are = a; inside = λ v s. s; outside = λ v s. s })
+
+    -- a member of the list of polynomials is that of a row
+    row_of_polynomial : (l : List (PivotRow (Scalar k))) (v : Vect k) → In v (polynomials l) → (w : ℕ → Scalar k) × In w (rows (scalars k) l) × (row_polynomial k ts w ≡ v)
+    row_of_polynomial [] v i = absurd i
+    row_of_polynomial (e ∷ l) v (inl q) = (e.1, inl refl, q)
+    row_of_polynomial (e ∷ l) v (inr i) = let r = row_of_polynomial l v i in (r.0, inr r.1, r.2)
+
+    past_rows : (l : List (PivotRow (Scalar k))) → Each (λ f. Past f.1) l → Each Past (rows (scalars k) l)
+    past_rows [] h = tt
+    past_rows (e ∷ l) h = (h.0, past_rows l h.1)
+
+    -- The polynomials whose coordinates are the combinations of rows in reduced echelon form have, as their reduced
+    -- echelon list, the polynomials of the rows.
+    pub echelon_rows : (l : List (PivotRow (Scalar k))) → IsReducedEchelon (scalars k) l → Each (λ e. (j : ℕ) → length ts ≤ j → e.1 j ≡ (scalars k).zero) l
+        → (U : Vect k → Type 0) → ((f : Vect k) → U f → Supp k (λ t. In t ts) f)
+        → ((f : Vect k) → Supp k (λ t. In t ts) f → (U f ↔ InSpan (columns (scalars k)) (rows (scalars k) l) (coordinates k ts f)))
+        → IsEchelon k o U (map (row_polynomial k ts) (rows (scalars k) l))
+    echelon_rows l r past U keys same = echelon_within U (Spans k (polynomials l)) (polynomials l) inside within (subst (λ us. IsEchelon k o (Spans k us) us) (polynomials_of_rows l) (echelon_of_rows (map polynomial_row l) (are_rows l r past)))
+      where
+        inside : (v : Vect k) → In v (polynomials l) → U v
+        inside v i =
+            let w = row_of_polynomial l v i in
+            let is = coordinates_row_all k o ts falls w.0 (each_in Past (rows (scalars k) l) (past_rows l past) w.0 w.1) in
+            subst U w.2 ((same _ (row_keys k ts w.0)).1 (subst (InSpan (columns (scalars k)) (rows (scalars k) l)) (sym is)
+            (each_in (InSpan (columns (scalars k)) (rows (scalars k) l)) (rows (scalars k) l) (span_member (columns (scalars k)) (rows (scalars k) l)) w.0 w.1)))
+
+        within : (v : Vect k) → U v → Spans k (polynomials l) v
+        within v u =
+            let c = (same v (keys v u)).0 u in
+            let is : row_polynomial k ts (combination (columns (scalars k)) c.0 (rows (scalars k) l)) ≡ v = ap (row_polynomial k ts) c.1 ∙ row_coordinates k o ts falls v (keys v u) in
+            subst (Spans k (polynomials l)) is (span_of_combination (columns (scalars k)) (vectors k) (row_polynomial k ts) (row_polynomial_linear k ts) c.0 (rows (scalars k) l))

@@ -1,0 +1,9 @@
+use Rattle.alg_core.specs.Spaces.{over}
+use Rattle.lin_algebra.specs.Vectors.{vector}
+use Rattle.invariant_space.proofs.RowSteps.{Row}
+use Rattle.invariant_space.proofs.polynomials.polynomial.Given as goal
+
+abbrev pub invariant-loop-l : goal.invariant-loop-l
+invariant-loop-l g l =
+    let S = over g.F.Field.field g.O.TermOrder.order l.space in
+    Row S l.columns (vector S.field l.row) l.l l.terms.items

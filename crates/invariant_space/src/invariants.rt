@@ -1,0 +1,70 @@
+ghost use Rattle.std.specs.Prelude.{◌≡◌, ◌<◌, ◌≤◌, ℕ, All, Err, IfOk, length, map, replicate};
+ghost use Rattle.alg_core.specs.Binomials.{monomials_of_degree};
+ghost use Rattle.alg_core.specs.Spaces.{over, entries, Fits, IsPlace};
+ghost use Rattle.alg_core.specs.Vectors.{vec};
+ghost use Rattle.matrix_group.specs.Actions.{IsSquare};
+ghost use Rattle.invariant_space.specs.InvariantSpaces.{IsEchelonBasis};
+
+use crate::count::monomial_count;
+use crate::equations::equations;
+use crate::fault::SpaceFault;
+use crate::polynomials::polynomials;
+use crate::sorted::sorted;
+use alg_core::{Field, Memory, Space, TermOrder};
+use lin_algebra::{Matrix, kernel};
+use poly_module::Poly;
+use std::alloc::Global;
+
+/// The echelon basis of the homogeneous invariants of degree `d` under the matrices, by falling
+/// leads. The degree has at most `max_terms` monomials, or the answer is TermBound, which is told
+/// by their number alone.
+pub fn basis<F: Field, O: TermOrder>(
+    alloc: Global,
+    space: &Space<F, O>,
+    gens: &[Matrix<F::Elem>],
+    d: u32,
+    max_terms: u32,
+) -> Result<Vec<Poly<F::Elem>>, SpaceFault>
+    requires positive { 0 < length space.now.grading.weights.items }
+    requires few { length space.now.grading.weights.items ≤ 12 }
+    requires degree { d ≤ 12288 }
+    requires square { All (IsSquare (F.field space.now.field) (length space.now.grading.weights.items)) gens.now }
+    requires constants { IsPlace (over F.field O.order space.now) (0, replicate (length space.now.grading.weights.items) 0) }
+    ensures bound { (degree count : ℕ) → result ≡ Err (SpaceFault.TermBound degree count)
+        → (degree ≡ d) × (count ≡ monomials_of_degree (length space.now.grading.weights.items) d) × (max_terms < count) }
+    ensures within { let count = monomials_of_degree (length space.now.grading.weights.items) d in
+        max_terms < count → result ≡ Err (SpaceFault.TermBound d count) }
+    ensures fits { let S = over F.field O.order space.now in IfOk result (λ b. All (λ p. Fits S (entries (λ m. m) p)) b.items) }
+    ensures polynomials { IfOk result (λ b. All (λ p. All (λ e. e.0.0 ≡ 0) (entries (λ m. m) p)) b.items) }
+    ensures echelon { let S = over F.field O.order space.now in
+        IfOk result (λ b. IsEchelonBasis S gens.now d (map (λ p. vec S.field (entries (λ m. m) p)) b.items)) }
+{
+    let count = monomial_count(space.grading.weights.len() as u32, d);
+    if count > u128::from(max_terms) {
+        return Err(SpaceFault::TermBound { degree: d, count });
+    }
+    let basis = whole_basis(alloc, space, gens, d)?;
+    Ok(basis)
+}
+
+/// The same with no bound.
+fn whole_basis<F: Field, O: TermOrder>(
+    alloc: Global,
+    space: &Space<F, O>,
+    gens: &[Matrix<F::Elem>],
+    d: u32,
+) -> Result<Vec<Poly<F::Elem>>, Memory>
+    requires degree { d ≤ 12288 }
+    requires square { All (IsSquare (F.field space.now.field) (length space.now.grading.weights.items)) gens.now }
+    requires constants { IsPlace (over F.field O.order space.now) (0, replicate (length space.now.grading.weights.items) 0) }
+    ensures fits { let S = over F.field O.order space.now in IfOk result (λ b. All (λ p. Fits S (entries (λ m. m) p)) b.items) }
+    ensures polynomials { IfOk result (λ b. All (λ p. All (λ e. e.0.0 ≡ 0) (entries (λ m. m) p)) b.items) }
+    ensures echelon { let S = over F.field O.order space.now in
+        IfOk result (λ b. IsEchelonBasis S gens.now d (map (λ p. vec S.field (entries (λ m. m) p)) b.items)) }
+{
+    let columns = sorted(alloc, space, gens, d)?;
+    let equations = equations(alloc, space, gens, columns.as_slice())?;
+    let kernel = kernel(alloc, &space.field, &equations)?;
+    let basis = polynomials(alloc, space, columns.as_slice(), &kernel)?;
+    Ok(basis)
+}

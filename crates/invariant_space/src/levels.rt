@@ -1,0 +1,88 @@
+ghost use Rattle.std.specs.Prelude.{◌≡◌, ◌<◌, ◌≤◌, ◌++◌, All, IfOk, OnOk, length, map, replicate};
+ghost use Rattle.std.specs.List.{flat_map};
+ghost use Rattle.alg_core.specs.Spaces.{over, IsPlace};
+ghost use Rattle.poly_module.specs.GreatestExponents.{total};
+ghost use Rattle.matrix_group.specs.Actions.{IsSquare};
+ghost use Rattle.invariant_space.specs.Columns.{IsColumn};
+ghost use Rattle.invariant_space.specs.Levels.{reach, raised, IsLevel};
+
+use crate::columns::{Column, constant, times};
+use alg_core::{Field, Memory, Mono, Monomial, Space, TermOrder};
+use lin_algebra::Matrix;
+use std::alloc::Global;
+
+/// How many variables there are up to the first one that is in the monomial: all where it is 1.
+fn reach(mono: &Mono) -> usize
+    ensures is { result ≡ reach mono.now }
+{
+    for i in 0..mono.len() {
+        if mono.exp(i) > 0 {
+            return i + 1;
+        }
+    }
+    mono.len()
+}
+
+/// Adds the products of a column's monomial and each variable up to its first.
+fn push_products<F: Field, O: TermOrder>(
+    alloc: Global,
+    space: &Space<F, O>,
+    gens: &[Matrix<F::Elem>],
+    column: &Column<F::Elem>,
+    above: &mut Vec<Column<F::Elem>>,
+) -> Result<(), Memory>
+    requires constants { IsPlace (over F.field O.order space.now) (0, replicate (length space.now.grading.weights.items) 0) }
+    requires square { All (IsSquare (F.field space.now.field) (length space.now.grading.weights.items)) gens.now }
+    requires column { IsColumn (over F.field O.order space.now) gens.now column.now }
+    requires degree { total column.now.at.mono < 12288 }
+    requires columns { All (IsColumn (over F.field O.order space.now) gens.now) above.old.items }
+    ensures columns { OnOk result (All (IsColumn (over F.field O.order space.now) gens.now) above.new.items) }
+    ensures monomials { OnOk result (map (λ c. c.at.mono) above.new.items ≡ map (λ c. c.at.mono) above.old.items ++ raised column.now.at.mono) }
+{
+    for i in 0..reach(&column.at.mono) {
+        above.push(times(alloc, space, gens, column, i)?)?;
+    }
+    Ok(())
+}
+
+/// The monomials of the next degree: each one comes from its quotient by the first variable in it.
+fn next<F: Field, O: TermOrder>(
+    alloc: Global,
+    space: &Space<F, O>,
+    gens: &[Matrix<F::Elem>],
+    columns: &[Column<F::Elem>],
+) -> Result<Vec<Column<F::Elem>>, Memory>
+    requires constants { IsPlace (over F.field O.order space.now) (0, replicate (length space.now.grading.weights.items) 0) }
+    requires square { All (IsSquare (F.field space.now.field) (length space.now.grading.weights.items)) gens.now }
+    requires columns { All (IsColumn (over F.field O.order space.now) gens.now) columns.now }
+    requires degree { All (λ c. total c.at.mono < 12288) columns.now }
+    ensures columns { let S = over F.field O.order space.now in IfOk result (λ cs. All (IsColumn S gens.now) cs.items) }
+    ensures monomials { IfOk result (λ cs. map (λ c. c.at.mono) cs.items ≡ flat_map raised (map (λ c. c.at.mono) columns.now)) }
+{
+    let mut above = Vec::new(alloc);
+    for column in columns {
+        push_products(alloc, space, gens, column, &mut above)?;
+    }
+    Ok(above)
+}
+
+/// All monomials of a degree.
+pub(crate) fn level<F: Field, O: TermOrder>(
+    alloc: Global,
+    space: &Space<F, O>,
+    gens: &[Matrix<F::Elem>],
+    d: u32,
+) -> Result<Vec<Column<F::Elem>>, Memory>
+    requires constants { IsPlace (over F.field O.order space.now) (0, replicate (length space.now.grading.weights.items) 0) }
+    requires square { All (IsSquare (F.field space.now.field) (length space.now.grading.weights.items)) gens.now }
+    requires degree { d ≤ 12288 }
+    ensures columns { let S = over F.field O.order space.now in IfOk result (λ cs. All (IsColumn S gens.now) cs.items) }
+    ensures level { IfOk result (λ cs. IsLevel (length space.now.grading.weights.items) d (map (λ c. c.at.mono) cs.items)) }
+{
+    let mut level = Vec::new(alloc);
+    level.push(constant(alloc, space, gens)?)?;
+    for _below in 0..d {
+        level = next(alloc, space, gens, &level)?;
+    }
+    Ok(level)
+}

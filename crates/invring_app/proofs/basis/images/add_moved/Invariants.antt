@@ -1,7 +1,0 @@
-use Rattle.std.proofs.Common.{All}
-use Rattle.alg_core.specs.Fields.{Has}
-use Rattle.invring_app.proofs.basis.images.add_moved.Given as goal
-
-abbrev pub invariant-loop-i : goal.invariant-loop-i
-invariant-loop-i g l =
-    All (Has (g.F.Field.field l.field)) l.sum

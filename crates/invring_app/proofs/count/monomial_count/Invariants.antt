@@ -1,9 +1,0 @@
-use Rattle.std.proofs.Common.{◌≤◌}
-use Rattle.invring_app.proofs.BinomialLaws.{Counted}
-use Rattle.invring_app.proofs.count.monomial_count.Given as goal
-
-abbrev pub invariant-loop-i : goal.invariant-loop-i
-invariant-loop-i l = record {
-  below : l.i ≤ l.variables;
-  counted : Counted l.degree l.i l.count;
-}

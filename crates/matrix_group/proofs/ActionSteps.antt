@@ -1,0 +1,92 @@
+-- Steps of the computation of an image: cells of a matrix, and variables and linear forms as lists of terms.
+use Rattle.std.proofs.Common.{◌≡◌, ℕ, zero, suc, ◌+◌, ◌*◌, ◌<◌, ◌≤◌, List, [], ◌∷◌, ◌++◌, length, get_or, replicate, slice_set, refl, sym, ap, ap₂, subst, ◌∙◌, arith}
+use Rattle.std.proofs.lemmas.List.{map-append, get_or-take, get_or-drop, get_or_default}
+use Rattle.alg_core.specs.Fields.{FieldOn, Has, Scalar, scalars, scalar, scalar_one}
+use Rattle.alg_core.specs.FreeModules.{single}
+use Rattle.alg_core.specs.Monomials.{mono, mono_ext, exponent}
+use Rattle.alg_core.specs.Keys.{key, key_same}
+use Rattle.alg_core.specs.Vectors.{vectors, vec, plus}
+use Rattle.alg_core.specs.declared.term.Term.{Term}
+use Rattle.alg_core.specs.Spaces.{entry, entries}
+use Rattle.alg_core.proofs.VectorLaws.{vec_append, vec_nothing, vec_single}
+use Rattle.poly_module.specs.MonomialVariables.{variable, after_zeros}
+use Rattle.poly_module.specs.Polynomials.{single_vector}
+use Rattle.poly_module.specs.Substitutions.{variable_vector}
+use Rattle.lin_algebra.specs.declared.matrix.Matrix.{Matrix}
+use Rattle.lin_algebra.specs.Matrices.{entries as cells_of}
+use Rattle.lin_algebra.proofs.CutLaws.{cut_at}
+use Rattle.matrix_group.specs.Actions.{IsSquare, linear_form}
+
+-- the exponents of a variable
+pub mono_set : (n i : ℕ) → i < n → mono (slice_set (replicate n 0) i 1) ≡ variable i
+unfolding variable after_zeros
+mono_set n i h = mono_ext _ (after_zeros i (1 ∷ [])) (at n i h)
+  where
+    zeros : (n j : ℕ) → exponent (replicate n 0) j ≡ 0
+    zeros zero j = refl
+    zeros (suc n) zero = refl
+    zeros (suc n) (suc j) = zeros n j
+
+    at : (n i : ℕ) → i < n → (j : ℕ) → exponent (slice_set (replicate n 0) i 1) j ≡ exponent (after_zeros i (1 ∷ [])) j
+    at zero i h j = absurd (omega arith)
+    at (suc n) zero h zero = refl
+    at (suc n) zero h (suc j) = zeros n j
+    at (suc n) (suc i) h zero = refl
+    at (suc n) (suc i) h (suc j) = at n i (omega arith) j
+
+-- and its key
+pub key_variable : (a b : List ℕ) (i : ℕ) → a ≡ b → mono b ≡ variable i → key (0, a) ≡ (0, variable i)
+unfolding key
+key_variable a b i e is = ap (λ m. (0, m)) (ap mono e ∙ is)
+
+-- the cell of a square matrix, as it is read from the list of cells
+pub cell_inside : (n i j : ℕ) → i < n → j < n → i * n + j < n * n
+cell_inside n i j h l = let r : suc i * n ≤ n * n = mul_mono (suc i) n n (omega arith) in omega arith
+  where
+    mul_mono : (a b p : ℕ) → a ≤ b → a * p ≤ b * p
+    mul_mono zero b p h = omega arith
+    mul_mono (suc a) zero p h = absurd (omega arith)
+    mul_mono (suc a) (suc b) p h = let r = mul_mono a b p (omega arith) in omega arith
+
+module _ {E : Type 0} (k : FieldOn E) (m : Matrix E) (square : IsSquare k m.rows m) where
+  pub cells_many : length m.cells.items ≡ m.rows * m.rows
+  cells_many = square.matrix.whole ∙ ap (λ n. m.rows * n) square.cols
+
+  pub cell_within : (n i j : ℕ) → n ≡ m.rows → i < m.rows → j < n → i * n + j < length m.cells.items
+  cell_within n i j e h l = subst (λ n. i * n + j < length m.cells.items) (sym e) (let r = cell_inside m.rows i j h (omega arith) in let s = cells_many in omega arith)
+
+  pub cell_has : (n i j : ℕ) (x : E) → n ≡ m.rows → i < m.rows → j < n → x ≡ get_or m.cells.items (i * n + j) x → Has k x
+  cell_has n i j x e h l is = subst (Has k) (sym is) (square.matrix.has (i * n + j) x (cell_within n i j e h l))
+
+  pub cell_entry : (n i j : ℕ) (x : E) → n ≡ m.rows → i < m.rows → j < n → x ≡ get_or m.cells.items (i * n + j) x → scalar k x ≡ cells_of k m i j
+  cell_entry n i j x e h l is = ap (scalar k) (is ∙ get_or_default m.cells.items (i * n + j) x k.zero (cell_within n i j e h l)
+      ∙ ap (λ c. get_or m.cells.items (i * c + j) k.zero) (e ∙ sym square.cols)
+      ∙ sym (get_or-drop (i * m.cols) m.cells.items j k.zero) ∙ sym (get_or-take m.cols _ j k.zero (omega (arith, square.cols)))
+      ∙ ap (λ r. get_or r j k.zero) (sym (cut_at m.rows m.cols i m.cells.items [] h)))
+
+module _ {E M : Type 0} (k : FieldOn E) (exps : M → List ℕ) where
+  abbrev Terms : Type 0
+  Terms = List (Term E M)
+
+  -- a multiple of a variable
+  vec_variable : (t : Term E M) (i : ℕ) → key (entry exps t).0 ≡ (0, variable i) → vec k (entries exps (t ∷ [])) ≡ (vectors k).◌·◌ (scalar k t.coef) (variable_vector k i)
+  unfolding variable_vector single_vector
+  vec_variable t i e = vec_single k (entry exps t) ∙ ap (λ s. (vectors k).◌·◌ (scalar k t.coef) (single (scalars k) key_same s)) e
+
+  -- the variable itself
+  pub one_variable : (v terms : Terms) (t : Term E M) (i : ℕ) → vec k (entries exps v) ≡ vec k (entries exps terms) → terms ≡ t ∷ [] → t.coef ≡ k.one → key (entry exps t).0 ≡ (0, variable i) → vec k (entries exps v) ≡ variable_vector k i
+  one_variable v terms t i made one unit e =
+      made ∙ ap (λ l. vec k (entries exps l)) one ∙ vec_variable t i e ∙ ap (λ c. (vectors k).◌·◌ c (variable_vector k i)) (ap (scalar k) unit ∙ scalar_one k) ∙ (vectors k).one_act _
+
+  -- the first terms of a linear form
+  pub form_start : (terms : Terms) (c : ℕ → Scalar k) → terms ≡ [] → vec k (entries exps terms) ≡ linear_form k 0 c
+  form_start terms c none = ap (λ l. vec k (entries exps l)) none ∙ vec_nothing k
+
+  pub form_step : (terms new : Terms) (t : Term E M) (x : E) (c : ℕ → Scalar k) (j : ℕ) → new ≡ terms ++ (t ∷ []) → vec k (entries exps terms) ≡ linear_form k j c
+      → t.coef ≡ x → key (entry exps t).0 ≡ (0, variable j) → scalar k x ≡ c j → vec k (entries exps new) ≡ linear_form k (j + 1) c
+  form_step terms new t x c j more was same e is =
+      ap (λ l. vec k (entries exps l)) more ∙ ap (vec k) (map-append (entry exps) terms (t ∷ [])) ∙ vec_append k (entries exps terms) (entries exps (t ∷ []))
+      ∙ ap₂ (plus k) was (vec_variable t j e ∙ ap (λ d. (vectors k).◌·◌ d (variable_vector k j)) (ap (scalar k) same ∙ is)) ∙ ap (λ n. linear_form k n c) one
+    where
+      one : suc j ≡ j + 1
+      one = omega arith

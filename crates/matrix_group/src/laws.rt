@@ -1,0 +1,46 @@
+ghost use Rattle.std.specs.Prelude.{◌≡◌, ◌≤◌, ℕ, List, replicate};
+ghost use Rattle.alg_core.specs.Rings.{Homomorphism};
+ghost use Rattle.alg_core.specs.Fields.{Scalar, scalars};
+ghost use Rattle.alg_core.specs.Vectors.{Vect, plus, zero_vector, scale};
+ghost use Rattle.poly_module.specs.Polynomials.{product, one_vector, vector_algebra};
+ghost use Rattle.poly_module.specs.Substitutions.{variable_vector};
+ghost use Rattle.poly_module.specs.Parts.{IsPolynomial, InVariables};
+ghost use Rattle.poly_module.specs.Forms.{IsForm};
+ghost use Rattle.lin_algebra.specs.declared.matrix.Matrix.{Matrix};
+ghost use Rattle.lin_algebra.specs.Matrices.{IsIdentity, product as matrix_product};
+ghost use Rattle.matrix_group.specs.Actions.{act, image, Invariant};
+
+use alg_core::Field;
+
+/// The action of a matrix is a homomorphism that sends each variable to its image, and polynomials to
+/// polynomials in the same variables, forms to forms of their degree; one matrix after another acts as
+/// their product, and the identity leaves polynomials alone.
+pub fn actions<F: Field>(_field: &F)
+    ensures homomorphism { let k = F.field _field.now in
+        (n : ℕ) (a : ℕ → ℕ → Scalar k) → Homomorphism (vector_algebra k) (vector_algebra k) (act k n a) }
+    ensures variable { let k = F.field _field.now in
+        (n : ℕ) (a : ℕ → ℕ → Scalar k) (i : ℕ) → act k n a (variable_vector k i) ≡ image k n a i }
+    ensures polynomial { let k = F.field _field.now in
+        (n : ℕ) (a : ℕ → ℕ → Scalar k) (u : Vect k) → IsPolynomial k (act k n a u) }
+    ensures variables { let k = F.field _field.now in
+        (n : ℕ) (a : ℕ → ℕ → Scalar k) (w : ℕ) → n ≤ w → (u : Vect k) → InVariables k w u → InVariables k w (act k n a u) }
+    ensures form { let k = F.field _field.now in
+        (n : ℕ) (a : ℕ → ℕ → Scalar k) (w : ℕ) → n ≤ w → (d : ℕ) (u : Vect k) → InVariables k w u
+        → IsForm k (replicate w 1) d u → IsForm k (replicate w 1) d (act k n a u) }
+    ensures after { let k = F.field _field.now in
+        (n : ℕ) (a b : ℕ → ℕ → Scalar k) (u : Vect k) → act k n b (act k n a u) ≡ act k n (matrix_product (scalars k) n a b) u }
+    ensures identity { let k = F.field _field.now in
+        (n : ℕ) (a : ℕ → ℕ → Scalar k) → IsIdentity (scalars k) n a → (u : Vect k) → IsPolynomial k u → act k n a u ≡ u }
+{}
+
+/// The invariants have 0, 1, sums, multiples and products.
+pub fn invariants<F: Field>(_field: &F)
+    ensures zero { let k = F.field _field.now in (gens : List (Matrix F.Elem)) → Invariant k gens (zero_vector k) }
+    ensures one { let k = F.field _field.now in (gens : List (Matrix F.Elem)) → Invariant k gens (one_vector k) }
+    ensures sum { let k = F.field _field.now in
+        (gens : List (Matrix F.Elem)) (u v : Vect k) → Invariant k gens u → Invariant k gens v → Invariant k gens (plus k u v) }
+    ensures multiple { let k = F.field _field.now in
+        (gens : List (Matrix F.Elem)) (c : F.Elem) (u : Vect k) → Invariant k gens u → Invariant k gens (scale k c u) }
+    ensures product { let k = F.field _field.now in
+        (gens : List (Matrix F.Elem)) (u v : Vect k) → Invariant k gens u → Invariant k gens v → Invariant k gens (product k u v) }
+{}
