@@ -6,6 +6,7 @@ mod count;
 mod equations;
 mod fault;
 mod invariants;
+mod laws;
 mod levels;
 mod polynomials;
 mod sorted;
@@ -14,3 +15,4 @@ mod tests;
 
 pub use fault::SpaceFault;
 pub use invariants::basis;
+pub use laws::echelon_bases;

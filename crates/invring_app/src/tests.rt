@@ -42,7 +42,9 @@ fn answers_scripts(rt: HostRuntime) -> Result<(), Fail> {
     };
     let on_lines = b"ring R=2,(x,y),dp;\nmatrix A[2][2]=0,1,1,0;\n";
     let one_variable = b"ring R=32003,(q),dp;\nmatrix A[1][1]=32002;";
-    let table: [(&str, &[u8], Status, &[u8], &[u8]); 8] = [
+    let identity = b"ring R=3,(x,y),dp; matrix A[2][2]=1,0,0,1;";
+    let turn = b"ring R=3,(x,y,z),dp; matrix A[3][3]=0,1,0,2,0,0,0,0,2;";
+    let table: [(&str, &[u8], Status, &[u8], &[u8]); 11] = [
         ("2", SWAP, Status::Done, b"x^2+y^2\nx*y\n", b""),
         ("0", SWAP, Status::Done, b"1\n", b""),
         ("1", on_lines, Status::Done, b"x+y\n", b""),
@@ -56,6 +58,9 @@ fn answers_scripts(rt: HostRuntime) -> Result<(), Fail> {
         ),
         ("1", one_variable, Status::Done, b"", b""),
         ("2", one_variable, Status::Done, b"q^2\n", b""),
+        ("2", identity, Status::Done, b"x^2\nx*y\ny^2\n", b""),
+        ("1", turn, Status::Done, b"", b""),
+        ("3", turn, Status::Done, b"x^2*z-y^2*z\nx*y*z\n", b""),
         (
             "1000",
             b"",
