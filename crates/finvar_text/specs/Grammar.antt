@@ -174,11 +174,11 @@ call_word s k (Argument x y z ws) w = named w (After s k (InCall (ArgumentEnd x 
 call_word s k (ArgumentEnd x y z ws) w = None
 call_word s k (CallEnd x y z ws) w = None
 
-unfoldable pub print_word : Script → Bool → Printing → List ℕ → Option State
-print_word s k PrintOpen w = None
-print_word s k PrintName w = named w (After s k (InPrint (PrintClose w)))
-print_word s k (PrintClose n) w = None
-print_word s k (PrintEnd n word) w = None
+unfoldable pub printing_word : Script → Bool → Printing → List ℕ → Option State
+printing_word s k PrintOpen w = None
+printing_word s k PrintName w = named w (After s k (InPrint (PrintClose w)))
+printing_word s k (PrintClose n) w = None
+printing_word s k (PrintEnd n word) w = None
 
 unfoldable pub body_word : Script → Bool → Body → List ℕ → Option State
 body_word s k Items w =
@@ -192,7 +192,7 @@ body_word s k MatrixName w = named w (After s k (MatrixNamed w))
 body_word s k (MatrixNamed n) w = None
 body_word s k (InMatrix m) w = None
 body_word s k (InCall c) w = call_word s k c w
-body_word s k (InPrint p) w = print_word s k p w
+body_word s k (InPrint p) w = printing_word s k p w
 
 unfoldable pub next_word : State → List ℕ → Option State
 next_word (Before libs o) w = opening_word libs o w
