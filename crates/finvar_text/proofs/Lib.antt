@@ -1,2 +1,4 @@
 pub mod TokenSteps
 pub mod TokenTexts
+pub mod Layouts
+pub mod ByteSteps
