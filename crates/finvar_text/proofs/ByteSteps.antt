@@ -81,7 +81,7 @@ bind_some Q P None h q f = tt
 bind_some Q P (Some x) h q f = f x q
 
 -- after what is no comment to the end of a line, each lexeme that is no word and no number may follow
-loose : (p : Side) (l : Lexeme) → is_commented p ≡ false → is_solid (side l) ≡ false → may_follow p l ≡ true
+pub loose : (p : Side) (l : Lexeme) → is_commented p ≡ false → is_solid (side l) ≡ false → may_follow p l ≡ true
 loose Clear l h e = refl
 loose Solid l h e = ap not e
 loose Commented l h e = absurd cc

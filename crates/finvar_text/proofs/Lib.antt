@@ -2,3 +2,4 @@ pub mod TokenSteps
 pub mod TokenTexts
 pub mod Layouts
 pub mod ByteSteps
+pub mod Endings
