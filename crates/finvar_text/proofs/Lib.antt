@@ -3,3 +3,5 @@ pub mod TokenTexts
 pub mod Layouts
 pub mod ByteSteps
 pub mod Endings
+pub mod Fronts
+pub mod Completeness
