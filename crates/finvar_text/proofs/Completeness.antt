@@ -1,267 +1,169 @@
 -- Each text is scanned, and its script is found.
-use Rattle.std.proofs.Common.{◌≡◌, ℕ, Bool, true, false, List, [], ◌∷◌, ◌++◌, Option, Some, None, IsTrue, if◌then◌else◌, sym, ap, ap₂, ◌∙◌, refl, subst, arith}
-use Rattle.std.specs.Prelude.{codes, not, ◌==◌, ◌&&◌, ◌||◌, IfSome, nat_le}
+use Rattle.std.proofs.Common.{◌≡◌, ℕ, Bool, true, false, List, [], ◌∷◌, ◌++◌, Option, Some, None, if◌then◌else◌, sym, ap, ap₂, ◌∙◌, refl, subst, arith}
+use Rattle.std.specs.Prelude.{not, ◌==◌, ◌&&◌, ◌||◌, nat_le}
 use Rattle.std.specs.List.{list_all}
 use Rattle.std.specs.Char.{is_ascii_digit}
-use Rattle.std.specs.Bool.{Decides}
-use Rattle.std.specs.Str.{bytes_eq}
-use Rattle.std.proofs.lemmas.Slice.Eq.{bytes_eq-Decides}
-use Rattle.std.proofs.lemmas.Bool.{and_parts, not-true}
+use Rattle.std.proofs.lemmas.Bool.{and_parts}
 use Rattle.std.proofs.lemmas.Bool.Decides.{nat_tests}
 use mathlib.Core.List.{append_assoc, append-nil}
-use Rattle.alg_core.specs.Names.{is_letter, is_name_byte, is_reserved}
-use Rattle.finvar_text.specs.Syntax.{Script, Token, Word, Number, Text, Symbol, Lexeme, Blank, LineComment, BlockComment, Proper, lexeme_bytes, spelling, tokens_of, tokens_in, tokens, Side, Clear, Solid, Commented, side, IsNext, AreJoined, IsToken, IsText, is_blank, is_open, is_word, is_number, is_string_byte}
-use Rattle.finvar_text.specs.Grammar.{Opening, Libs, LibText, LibEnd, RingName, RingEquals, Characteristic, CharacteristicEnd, Variables, Variable, VariableEnd, VariablesEnd, Order, RingEnd, Matrix, Rows, RowsEnd, ColsStart, Cols, ColsEnd, MatrixEquals, EntryStart, Digits, EntryEnd, Call, Second, SecondEnd, Third, ThirdEnd, InvariantRing, CallOpen, Argument, ArgumentEnd, CallEnd, Printing, PrintOpen, PrintName, PrintClose, PrintEnd, Body, Items, ItemText, ItemTextEnd, MatrixName, MatrixNamed, InMatrix, InCall, InPrint, State, Before, After, start, opening_symbol, matrix_symbol, call_symbol, print_symbol, body_symbol, next_symbol, opening_word, call_word, printing_word, body_word, next_word, matrix_number, opening_number, body_number, next_number, opening_text, body_text, next_text, next, whole, symbol, begins, word_front, opening_front, body_front, call_front, print_front, takes_number, takes_text, is_some, parse, ◌>>=◌}
-use Rattle.finvar_text.specs.Scanning.{Mode, Between, Slash, Line, Block, InWord, InNumber, InText, Scan, at, start_scan, between, in_slash, in_block, in_word, in_number, in_text, step_in, step, finish}
+use Rattle.alg_core.specs.Names.{is_letter, is_name_byte}
+use Rattle.finvar_text.specs.Syntax.{Script, Token, Word, Number, Text, Symbol, Lexeme, Blank, LineComment, BlockComment, Proper, lexeme_bytes, spelling, tokens_of, tokens_in, Clear, Solid, IsNext, AreJoined, IsToken, IsText, is_blank, is_string_byte}
+use Rattle.finvar_text.specs.Grammar.{State, After, Items, start, next_symbol, next_word, next_number, next_text, whole, word_front, takes_text, parse, ◌>>=◌}
+use Rattle.finvar_text.specs.Scanning.{Between, Line, Block, InWord, InNumber, InText, Scan, at, start_scan, between, in_slash, in_word, in_number, in_text, step_in, step, finish}
 use Rattle.finvar_text.proofs.TokenTexts.{script_parsed}
 use Rattle.finvar_text.proofs.Endings.{run, run_after}
-use Rattle.finvar_text.proofs.Fronts.{begins_word, word_scanned}
+use Rattle.finvar_text.proofs.Fronts.{word_scanned}
+use Rattle.finvar_text.proofs.Lexemes.{is_symbol, taken_symbol, taken_front, number_takes, text_takes, line_run, block_run, string_run, number_run, blank_step, letter_step, digit_step, symbol_step}
 
--- the symbols of scripts: ( ) , - ; = [ ]
-abbrev is_symbol : ℕ → Bool
-is_symbol b = b == 40 || (b == 41 || (b == 44 || (b == 45 || (b == 59 || (b == 61 || (b == 91 || b == 93))))))
+-- the lexemes lead to the script of their tokens
+abbrev Found : List Lexeme → Type 0
+Found ls = (g h : State) → parse g (tokens_in ls) ≡ Some h → run (at g Between) (spelling ls) ≡ whole h
 
-symbol_kind : (c b : ℕ) (s g : State) → is_symbol c ≡ true → symbol c b s ≡ Some g → is_symbol b ≡ true
-symbol_kind c b s g h = go (b == c) (λ e. grind (arith, nat_tests))
+first : (s s' : Scan) (b : ℕ) (rest : List ℕ) → step s b ≡ Some s' → run s (b ∷ rest) ≡ run s' rest
+first s s' b rest e = ap (λ (o : Option Scan). o >>= λ t. run t rest) e
+
+same_whole : (g h : State) → Some g ≡ Some h → whole g ≡ whole h
+same_whole g h e = ap (λ (o : Option State). o >>= whole) e
+
+symbol_then : (g : State) (b : ℕ) (ls : List Lexeme) (h : State) → Found ls → (next_symbol g b >>= λ g'. parse g' (tokens_in ls)) ≡ Some h → run (at g Between) (b ∷ spelling ls) ≡ whole h
+symbol_then g b ls h found = go (next_symbol g b) refl
   where
-    go : (t : Bool) → (t ≡ true → c ≡ b) → (if t then Some s else None) ≡ Some g → is_symbol b ≡ true
-    go true e f = subst (λ (x : ℕ). is_symbol x ≡ true) (e refl) h
-    go false e f = absurd cc
+    go : (o : Option State) → next_symbol g b ≡ o → (o >>= λ g'. parse g' (tokens_in ls)) ≡ Some h → run (at g Between) (b ∷ spelling ls) ≡ whole h
+    go None e p = absurd cc
+    go (Some g') e p = first (at g Between) (at g' Between) b (spelling ls) (symbol_step g b g' e (taken_symbol g b g' e)) ∙ found g' h p
 
-either_kind : (c b : ℕ) (s g : State) (o : Option State) → is_symbol c ≡ true → (o ≡ Some g → is_symbol b ≡ true) → (if b == c then Some s else o) ≡ Some g → is_symbol b ≡ true
-either_kind c b s g o h k = go (b == c) (λ e. grind (arith, nat_tests))
-  where
-    go : (t : Bool) → (t ≡ true → c ≡ b) → (if t then Some s else o) ≡ Some g → is_symbol b ≡ true
-    go true e f = subst (λ (x : ℕ). is_symbol x ≡ true) (e refl) h
-    go false e f = k f
+quote_step : (g : State) → takes_text g ≡ true → step (at g Between) 34 ≡ Some (at g (InText []))
+unfolding step_in between
+quote_step g e = ap (λ (t : Bool). if t then Some (at g (InText [])) else None) e
 
-opening_kind : (libs : List (List ℕ)) (o : Opening) (b : ℕ) (g : State) → opening_symbol libs o b ≡ Some g → is_symbol b ≡ true
-unfolding opening_symbol
-opening_kind libs Libs b g e = absurd cc
-opening_kind libs LibText b g e = absurd cc
-opening_kind libs (LibEnd w) b g e = symbol_kind 59 b _ g refl e
-opening_kind libs RingName b g e = absurd cc
-opening_kind libs (RingEquals r) b g e = symbol_kind 61 b _ g refl e
-opening_kind libs (Characteristic r) b g e = absurd cc
-opening_kind libs (CharacteristicEnd r c) b g e = symbol_kind 44 b _ g refl e
-opening_kind libs (Variables r c) b g e = symbol_kind 40 b _ g refl e
-opening_kind libs (Variable r c vs) b g e = absurd cc
-opening_kind libs (VariableEnd r c vs) b g e = either_kind 44 b _ g _ refl (symbol_kind 41 b _ g refl) e
-opening_kind libs (VariablesEnd r c p vs) b g e = symbol_kind 44 b _ g refl e
-opening_kind libs (Order r c p vs) b g e = absurd cc
-opening_kind libs (RingEnd r c p vs) b g e = symbol_kind 59 b _ g refl e
-
-matrix_kind : (s : Script) (k : Bool) (m : Matrix) (b : ℕ) (g : State) → matrix_symbol s k m b ≡ Some g → is_symbol b ≡ true
-unfolding matrix_symbol
-matrix_kind s k (Rows n) b g e = absurd cc
-matrix_kind s k (RowsEnd n r) b g e = symbol_kind 93 b _ g refl e
-matrix_kind s k (ColsStart n r) b g e = symbol_kind 91 b _ g refl e
-matrix_kind s k (Cols n r) b g e = absurd cc
-matrix_kind s k (ColsEnd n r c) b g e = symbol_kind 93 b _ g refl e
-matrix_kind s k (MatrixEquals n r c) b g e = symbol_kind 61 b _ g refl e
-matrix_kind s k (EntryStart n r c es) b g e = symbol_kind 45 b _ g refl e
-matrix_kind s k (Digits n r c es) b g e = absurd cc
-matrix_kind s k (EntryEnd n r c es) b g e = either_kind 44 b _ g _ refl (symbol_kind 59 b _ g refl) e
-
-call_kind : (s : Script) (k : Bool) (c : Call) (b : ℕ) (g : State) → call_symbol s k c b ≡ Some g → is_symbol b ≡ true
-unfolding call_symbol
-call_kind s k (Second x) b g e = absurd cc
-call_kind s k (SecondEnd x y) b g e = symbol_kind 44 b _ g refl e
-call_kind s k (Third x y) b g e = absurd cc
-call_kind s k (ThirdEnd x y z) b g e = symbol_kind 61 b _ g refl e
-call_kind s k (InvariantRing x y z) b g e = absurd cc
-call_kind s k (CallOpen x y z) b g e = symbol_kind 40 b _ g refl e
-call_kind s k (Argument x y z ws) b g e = absurd cc
-call_kind s k (ArgumentEnd x y z ws) b g e = either_kind 44 b _ g _ refl (symbol_kind 41 b _ g refl) e
-call_kind s k (CallEnd x y z ws) b g e = symbol_kind 59 b _ g refl e
-
-print_kind : (s : Script) (k : Bool) (p : Printing) (b : ℕ) (g : State) → print_symbol s k p b ≡ Some g → is_symbol b ≡ true
-unfolding print_symbol
-print_kind s k PrintOpen b g e = symbol_kind 40 b _ g refl e
-print_kind s k PrintName b g e = absurd cc
-print_kind s k (PrintClose n) b g e = symbol_kind 41 b _ g refl e
-print_kind s k (PrintEnd n word) b g e = symbol_kind 59 b _ g refl e
-
-begin_kind : (s : Script) (k : Bool) (n : List ℕ) (b : ℕ) (g : State) → (if k then None else symbol 44 b (After s k (InCall (Second n)))) ≡ Some g → is_symbol b ≡ true
-begin_kind s true n b g e = absurd cc
-begin_kind s false n b g e = symbol_kind 44 b _ g refl e
-
-body_kind : (s : Script) (k : Bool) (body : Body) (b : ℕ) (g : State) → body_symbol s k body b ≡ Some g → is_symbol b ≡ true
-unfolding body_symbol
-body_kind s k Items b g e = absurd cc
-body_kind s k ItemText b g e = absurd cc
-body_kind s k (ItemTextEnd w) b g e = symbol_kind 59 b _ g refl e
-body_kind s k MatrixName b g e = absurd cc
-body_kind s k (MatrixNamed n) b g e = either_kind 91 b _ g _ refl (begin_kind s k n b g) e
-body_kind s k (InMatrix m) b g e = matrix_kind s k m b g e
-body_kind s k (InCall c) b g e = call_kind s k c b g e
-body_kind s k (InPrint p) b g e = print_kind s k p b g e
-
-taken_symbol : (s : State) (b : ℕ) (g : State) → next_symbol s b ≡ Some g → is_symbol b ≡ true
-unfolding next_symbol
-taken_symbol (Before libs o) b g e = opening_kind libs o b g e
-taken_symbol (After s k body) b g e = body_kind s k body b g e
-
--- a beginning of a word that is taken may stand
-keyword_front : (k w u rest : List ℕ) (s g : State) → u ++ rest ≡ w → (if bytes_eq w k then Some s else None) ≡ Some g → begins u k ≡ true
-keyword_front k w u rest s g e = go (bytes_eq w k) (bytes_eq-Decides w k)
-  where
-    go : (t : Bool) → Decides t (w ≡ k) → (if t then Some s else None) ≡ Some g → begins u k ≡ true
-    go true d f = begins_word u rest k (e ∙ d.0 refl)
-    go false d f = absurd cc
-
-libs_front : (w u rest : List ℕ) (s : State) (o : Option State) (g : State) → u ++ rest ≡ w → (o ≡ Some g → begins u (codes "ring") ≡ true) → (if bytes_eq w (codes "LIB") then Some s else o) ≡ Some g → begins u (codes "LIB") || begins u (codes "ring") ≡ true
-libs_front w u rest s o g e k = go (bytes_eq w (codes "LIB")) (bytes_eq-Decides w (codes "LIB"))
-  where
-    right : (t u : Bool) → u ≡ true → t || u ≡ true
-    right true u e = refl
-    right false u e = e
-
-    go : (t : Bool) → Decides t (w ≡ codes "LIB") → (if t then Some s else o) ≡ Some g → begins u (codes "LIB") || begins u (codes "ring") ≡ true
-    go true d f = ap (λ (t : Bool). t || begins u (codes "ring")) (begins_word u rest (codes "LIB") (e ∙ d.0 refl))
-    go false d f = right (begins u (codes "LIB")) (begins u (codes "ring")) (k f)
-
-opening_begins : (libs : List (List ℕ)) (o : Opening) (w u rest : List ℕ) (g : State) → u ++ rest ≡ w → opening_word libs o w ≡ Some g → opening_front o u ≡ true
-unfolding opening_word
-opening_begins libs Libs w u rest g e h = libs_front w u rest _ _ g e (keyword_front (codes "ring") w u rest _ g e) h
-opening_begins libs LibText w u rest g e h = absurd cc
-opening_begins libs (LibEnd t) w u rest g e h = absurd cc
-opening_begins libs RingName w u rest g e h = refl
-opening_begins libs (RingEquals r) w u rest g e h = absurd cc
-opening_begins libs (Characteristic r) w u rest g e h = absurd cc
-opening_begins libs (CharacteristicEnd r c) w u rest g e h = absurd cc
-opening_begins libs (Variables r c) w u rest g e h = refl
-opening_begins libs (Variable r c vs) w u rest g e h = refl
-opening_begins libs (VariableEnd r c vs) w u rest g e h = absurd cc
-opening_begins libs (VariablesEnd r c p vs) w u rest g e h = absurd cc
-opening_begins libs (Order r c p vs) w u rest g e h = keyword_front (codes "dp") w u rest _ g e h
-opening_begins libs (RingEnd r c p vs) w u rest g e h = absurd cc
-
-call_begins : (s : Script) (k : Bool) (c : Call) (w u rest : List ℕ) (g : State) → u ++ rest ≡ w → call_word s k c w ≡ Some g → call_front c u ≡ true
-unfolding call_word
-call_begins s k (Second x) w u rest g e h = refl
-call_begins s k (SecondEnd x y) w u rest g e h = absurd cc
-call_begins s k (Third x y) w u rest g e h = refl
-call_begins s k (ThirdEnd x y z) w u rest g e h = absurd cc
-call_begins s k (InvariantRing x y z) w u rest g e h = keyword_front (codes "invariant_ring") w u rest _ g e h
-call_begins s k (CallOpen x y z) w u rest g e h = absurd cc
-call_begins s k (Argument x y z ws) w u rest g e h = refl
-call_begins s k (ArgumentEnd x y z ws) w u rest g e h = absurd cc
-call_begins s k (CallEnd x y z ws) w u rest g e h = absurd cc
-
-print_begins : (s : Script) (k : Bool) (p : Printing) (w u : List ℕ) (g : State) → printing_word s k p w ≡ Some g → print_front p u ≡ true
-unfolding printing_word
-print_begins s k PrintOpen w u g h = absurd cc
-print_begins s k PrintName w u g h = refl
-print_begins s k (PrintClose n) w u g h = absurd cc
-print_begins s k (PrintEnd n word) w u g h = absurd cc
-
-body_begins : (s : Script) (k : Bool) (body : Body) (w u rest : List ℕ) (g : State) → u ++ rest ≡ w → body_word s k body w ≡ Some g → body_front body u ≡ true
-unfolding body_word
-body_begins s k Items w u rest g e h = refl
-body_begins s k ItemText w u rest g e h = absurd cc
-body_begins s k (ItemTextEnd t) w u rest g e h = absurd cc
-body_begins s k MatrixName w u rest g e h = refl
-body_begins s k (MatrixNamed n) w u rest g e h = absurd cc
-body_begins s k (InMatrix m) w u rest g e h = absurd cc
-body_begins s k (InCall c) w u rest g e h = call_begins s k c w u rest g e h
-body_begins s k (InPrint p) w u rest g e h = print_begins s k p w u g h
-
-taken_front : (s : State) (w u rest : List ℕ) (g : State) → u ++ rest ≡ w → next_word s w ≡ Some g → word_front s u ≡ true
-unfolding next_word
-taken_front (Before libs o) w u rest g e h = opening_begins libs o w u rest g e h
-taken_front (After s k body) w u rest g e h = body_begins s k body w u rest g e h
-
-matrix_takes : (s : Script) (k : Bool) (m : Matrix) (w : List ℕ) (g : State) → matrix_number s k m w ≡ Some g → is_some (matrix_number s k m []) ≡ true
-unfolding matrix_number
-matrix_takes s k (Rows n) w g h = refl
-matrix_takes s k (RowsEnd n r) w g h = absurd cc
-matrix_takes s k (ColsStart n r) w g h = absurd cc
-matrix_takes s k (Cols n r) w g h = refl
-matrix_takes s k (ColsEnd n r c) w g h = absurd cc
-matrix_takes s k (MatrixEquals n r c) w g h = absurd cc
-matrix_takes s k (EntryStart n r c es) w g h = refl
-matrix_takes s k (Digits n r c es) w g h = refl
-matrix_takes s k (EntryEnd n r c es) w g h = absurd cc
-
-number_takes : (s : State) (w : List ℕ) (g : State) → next_number s w ≡ Some g → takes_number s ≡ true
-unfolding next_number body_number opening_number
-number_takes (Before libs (Characteristic r)) w g h = refl
-number_takes (After s k (InMatrix m)) w g h = matrix_takes s k m w g h
-number_takes s w g h = absurd cc
-
-text_takes : (s : State) (w : List ℕ) (g : State) → next_text s w ≡ Some g → takes_text s ≡ true
-unfolding next_text body_text opening_text
-text_takes (Before libs LibText) w g h = refl
-text_takes (After s k ItemText) w g h = refl
-text_takes s w g h = absurd cc
-
--- comments
-line_run : (g : State) (bs rest : List ℕ) → list_all (λ b. not (b == 10)) bs ≡ true → run (at g Line) (bs ++ rest) ≡ run (at g Line) rest
-unfolding step_in
-line_run g [] rest h = refl
-line_run g (b ∷ bs) rest h =
-    let parts = and_parts (not (b == 10)) (list_all (λ b. not (b == 10)) bs) h in
-    ap (λ (t : Bool). (if t then Some (at g Between) else Some (at g Line)) >>= λ s'. run s' (bs ++ rest)) (not-true (b == 10) parts.0) ∙ line_run g bs rest parts.1
-
-block_run : (g : State) (star : Bool) (bs rest : List ℕ) → is_open star bs ≡ true → run (at g (Block star)) (bs ++ 42 ∷ 47 ∷ rest) ≡ run (at g Between) rest
-unfolding step_in in_block
-block_run g true [] rest h = refl
-block_run g false [] rest h = refl
-block_run g star (b ∷ bs) rest h =
-    let parts = and_parts (not (star && b == 47)) (is_open (b == 42) bs) h in
-    ap (λ (t : Bool). (if t then Some (at g Between) else Some (at g (Block (b == 42)))) >>= λ s'. run s' (bs ++ 42 ∷ 47 ∷ rest)) (not-true (star && b == 47) parts.0) ∙ block_run g (b == 42) bs rest parts.1
-
--- strings, numbers, words
-string_run : (g : State) (u w rest : List ℕ) → list_all is_string_byte w ≡ true → run (at g (InText u)) (w ++ rest) ≡ run (at g (InText (u ++ w))) rest
+string_end : (g g' : State) (w : List ℕ) → next_text g w ≡ Some g' → step (at g (InText w)) 34 ≡ Some (at g' Between)
 unfolding step_in in_text
-string_run g u [] rest h = ap (λ (l : List ℕ). run (at g (InText l)) rest) (sym (append-nil u))
-string_run g u (b ∷ w) rest h =
-    let parts = and_parts (is_string_byte b) (list_all is_string_byte w) h in
-    let two = and_parts (not (b == 34)) (not (b == 10)) parts.0 in
-    ap₂ (λ (t n : Bool). (if t then (next_text g u >>= λ g'. Some (at g' Between)) else if n then None else Some (at g (InText (u ++ b ∷ [])))) >>= λ s'. run s' (w ++ rest)) (not-true (b == 34) two.0) (not-true (b == 10) two.1)
-    ∙ string_run g (u ++ b ∷ []) w rest parts.1 ∙ ap (λ (l : List ℕ). run (at g (InText l)) rest) (append_assoc u (b ∷ []) w)
+string_end g g' w e = ap (λ (o : Option State). o >>= λ g'. Some (at g' Between)) e
 
-number_run : (g : State) (u w rest : List ℕ) → list_all is_ascii_digit w ≡ true → run (at g (InNumber u)) (w ++ rest) ≡ run (at g (InNumber (u ++ w))) rest
+text_then : (g : State) (w : List ℕ) (ls : List Lexeme) (h : State) → Found ls → list_all is_string_byte w ≡ true → (next_text g w >>= λ g'. parse g' (tokens_in ls)) ≡ Some h → run (at g Between) (lexeme_bytes (Proper (Text w)) ++ spelling ls) ≡ whole h
+text_then g w ls h found is = go (next_text g w) refl
+  where
+    go : (o : Option State) → next_text g w ≡ o → (o >>= λ g'. parse g' (tokens_in ls)) ≡ Some h → run (at g Between) (lexeme_bytes (Proper (Text w)) ++ spelling ls) ≡ whole h
+    go None e p = absurd cc
+    go (Some g') e p =
+        first (at g Between) (at g (InText [])) 34 ((w ++ 34 ∷ []) ++ spelling ls) (quote_step g (text_takes g w g' e))
+        ∙ ap (run (at g (InText []))) (append_assoc w (34 ∷ []) (spelling ls)) ∙ string_run g [] w (34 ∷ spelling ls) is
+        ∙ first (at g (InText w)) (at g' Between) 34 (spelling ls) (string_end g g' w e) ∙ found g' h p
+
+-- the first byte of what may follow a word or a number
+record Ended (l : Lexeme) : Type 0 where
+  pub byte : ℕ
+  pub others : List ℕ
+  pub is : lexeme_bytes l ≡ byte ∷ others
+  pub apart : is_name_byte byte ≡ false
+
+symbol_ended : (b : ℕ) (g h : State) (ts : List Token) → (next_symbol g b >>= λ g'. parse g' ts) ≡ Some h → is_name_byte b ≡ false
+symbol_ended b g h ts = go (next_symbol g b) refl
+  where
+    apart : (b : ℕ) → is_symbol b ≡ true → is_name_byte b ≡ false
+    apart b e = grind (arith, nat_tests)
+
+    go : (o : Option State) → next_symbol g b ≡ o → (o >>= λ g'. parse g' ts) ≡ Some h → is_name_byte b ≡ false
+    go None e p = absurd cc
+    go (Some g') e p = apart b (taken_symbol g b g' e)
+
+blank_apart : (b : ℕ) → is_blank b ≡ true → is_name_byte b ≡ false
+blank_apart b e = grind (arith, nat_tests)
+
+ended : (l : Lexeme) (g h : State) (ts : List Token) → IsNext Solid l → parse g (tokens_of l ++ ts) ≡ Some h → Ended l
+ended (Blank b) g h ts n p = record { byte = b; others = []; is = refl; apart = blank_apart b n.lexeme }
+ended (LineComment bs) g h ts n p = record { byte = 47; others = 47 ∷ bs; is = refl; apart = refl }
+ended (BlockComment bs) g h ts n p = record { byte = 47; others = 42 ∷ (bs ++ 42 ∷ 47 ∷ []); is = refl; apart = refl }
+ended (Proper (Word w)) g h ts n p = absurd (let f = n.follows in cc)
+ended (Proper (Number w)) g h ts n p = absurd (let f = n.follows in cc)
+ended (Proper (Text w)) g h ts n p = record { byte = 34; others = w ++ 34 ∷ []; is = refl; apart = refl }
+ended (Proper (Symbol b)) g h ts n p = record { byte = b; others = []; is = refl; apart = symbol_ended b g h ts p }
+
+word_end : (g g' : State) (w : List ℕ) (b : ℕ) (rest : List ℕ) → next_word g w ≡ Some g' → is_name_byte b ≡ false → run (at g (InWord w)) (b ∷ rest) ≡ run (at g' Between) (b ∷ rest)
+unfolding step_in in_word
+word_end g g' w b rest e f = ap₂ (λ (t : Bool) (o : Option State). (if t then (if word_front g (w ++ b ∷ []) then Some (at g (InWord (w ++ b ∷ []))) else None) else (o >>= λ g'. between g' b)) >>= λ s'. run s' rest) f e
+
+number_end : (g g' : State) (w : List ℕ) (b : ℕ) (rest : List ℕ) → next_number g w ≡ Some g' → is_name_byte b ≡ false → run (at g (InNumber w)) (b ∷ rest) ≡ run (at g' Between) (b ∷ rest)
 unfolding step_in in_number
-number_run g u [] rest h = ap (λ (l : List ℕ). run (at g (InNumber l)) rest) (sym (append-nil u))
-number_run g u (b ∷ w) rest h =
-    let parts = and_parts (is_ascii_digit b) (list_all is_ascii_digit w) h in
-    ap (λ (t : Bool). (if t then Some (at g (InNumber (u ++ b ∷ []))) else if is_letter b then None else (next_number g u >>= λ g'. between g' b)) >>= λ s'. run s' (w ++ rest)) parts.0
-    ∙ number_run g (u ++ b ∷ []) w rest parts.1 ∙ ap (λ (l : List ℕ). run (at g (InNumber l)) rest) (append_assoc u (b ∷ []) w)
+number_end g g' w b rest e f =
+    let digit : is_ascii_digit b ≡ false = grind (arith, nat_tests) in
+    let letter : is_letter b ≡ false = grind (arith, nat_tests) in
+    ap₂ (λ (t u : Bool). (if t then Some (at g (InNumber (w ++ b ∷ []))) else if u then None else (next_number g w >>= λ g'. between g' b)) >>= λ s'. run s' rest) digit letter
+    ∙ ap (λ (o : Option State). (o >>= λ g'. between g' b) >>= λ s'. run s' rest) e
 
--- the tests of a byte where nothing is open
-module _ (g : State) (b : ℕ) where
-  blank_step : is_blank b ≡ true → step (at g Between) b ≡ Some (at g Between)
-  unfolding step_in between
-  blank_step e = ap (λ (t : Bool). if t then Some (at g Between) else if b == 47 then Some (at g Slash) else if b == 34 then (if takes_text g then Some (at g (InText [])) else None) else if is_letter b then (if word_front g (b ∷ []) then Some (at g (InWord (b ∷ []))) else None) else if is_ascii_digit b then (if takes_number g then Some (at g (InNumber (b ∷ []))) else None) else (next_symbol g b >>= λ g'. Some (at g' Between))) e
+word_solid : (g g' : State) (w : List ℕ) (ls : List Lexeme) (h : State) → next_word g w ≡ Some g' → parse g' (tokens_in ls) ≡ Some h → AreJoined Solid ls → Found ls → run (at g (InWord w)) (spelling ls) ≡ whole h
+word_solid g g' w [] h e p j found = ap (λ (o : Option State). o >>= whole) e ∙ same_whole g' h p
+word_solid g g' w (l ∷ ls) h e p j found =
+    let f = ended l g' h (tokens_in ls) j.0 p in
+    ap (λ (bs : List ℕ). run (at g (InWord w)) (bs ++ spelling ls)) f.is ∙ word_end g g' w f.byte (f.others ++ spelling ls) e f.apart
+    ∙ ap (λ (bs : List ℕ). run (at g' Between) (bs ++ spelling ls)) (sym f.is) ∙ found g' h p
 
-  plain_step : is_blank b ≡ false → b == 47 ≡ false → b == 34 ≡ false → step (at g Between) b ≡ (if is_letter b then (if word_front g (b ∷ []) then Some (at g (InWord (b ∷ []))) else None) else if is_ascii_digit b then (if takes_number g then Some (at g (InNumber (b ∷ []))) else None) else (next_symbol g b >>= λ g'. Some (at g' Between)))
-  unfolding step_in between
-  plain_step e f h =
-      let after : Option Scan = if is_letter b then (if word_front g (b ∷ []) then Some (at g (InWord (b ∷ []))) else None) else if is_ascii_digit b then (if takes_number g then Some (at g (InNumber (b ∷ []))) else None) else (next_symbol g b >>= λ g'. Some (at g' Between)) in
-      let quoted : Option Scan = if takes_text g then Some (at g (InText [])) else None in
-      ap (λ (t : Bool). if t then Some (at g Between) else if b == 47 then Some (at g Slash) else if b == 34 then quoted else after) e
-      ∙ ap (λ (t : Bool). if t then Some (at g Slash) else if b == 34 then quoted else after) f
-      ∙ ap (λ (t : Bool). if t then quoted else after) h
+number_solid : (g g' : State) (w : List ℕ) (ls : List Lexeme) (h : State) → next_number g w ≡ Some g' → parse g' (tokens_in ls) ≡ Some h → AreJoined Solid ls → Found ls → run (at g (InNumber w)) (spelling ls) ≡ whole h
+number_solid g g' w [] h e p j found = ap (λ (o : Option State). o >>= whole) e ∙ same_whole g' h p
+number_solid g g' w (l ∷ ls) h e p j found =
+    let f = ended l g' h (tokens_in ls) j.0 p in
+    ap (λ (bs : List ℕ). run (at g (InNumber w)) (bs ++ spelling ls)) f.is ∙ number_end g g' w f.byte (f.others ++ spelling ls) e f.apart
+    ∙ ap (λ (bs : List ℕ). run (at g' Between) (bs ++ spelling ls)) (sym f.is) ∙ found g' h p
 
-  letter_step : is_letter b ≡ true → word_front g (b ∷ []) ≡ true → step (at g Between) b ≡ Some (at g (InWord (b ∷ [])))
-  letter_step e f =
-      let rest : Option Scan = if is_ascii_digit b then (if takes_number g then Some (at g (InNumber (b ∷ []))) else None) else (next_symbol g b >>= λ g'. Some (at g' Between)) in
-      plain_step (grind (arith, nat_tests)) (grind (arith, nat_tests)) (grind (arith, nat_tests))
-      ∙ ap₂ (λ (t u : Bool). if t then (if u then Some (at g (InWord (b ∷ []))) else None) else rest) e f
+word_then : (g : State) (w : List ℕ) (ls : List Lexeme) (h : State) → Found ls → IsToken (Word w) → AreJoined Solid ls → (next_word g w >>= λ g'. parse g' (tokens_in ls)) ≡ Some h → run (at g Between) (w ++ spelling ls) ≡ whole h
+word_then g [] ls h found is j = absurd cc
+word_then g (b ∷ w) ls h found is j = go (next_word g (b ∷ w)) refl
+  where
+    go : (o : Option State) → next_word g (b ∷ w) ≡ o → (o >>= λ g'. parse g' (tokens_in ls)) ≡ Some h → run (at g Between) (b ∷ (w ++ spelling ls)) ≡ whole h
+    go None e p = absurd cc
+    go (Some g') e p =
+        let parts = and_parts (is_letter b) (list_all is_name_byte w) is in
+        first (at g Between) (at g (InWord (b ∷ []))) b (w ++ spelling ls) (letter_step g b parts.0 (taken_front g (b ∷ w) (b ∷ []) w g' refl e))
+        ∙ run_after (at g (InWord (b ∷ []))) (at g (InWord (b ∷ w))) w (spelling ls) (word_scanned g (b ∷ w) (λ u rest same. taken_front g (b ∷ w) u rest g' same e) (b ∷ []) w refl parts.1)
+        ∙ word_solid g g' (b ∷ w) ls h e p j found
 
-  digit_step : is_ascii_digit b ≡ true → takes_number g ≡ true → step (at g Between) b ≡ Some (at g (InNumber (b ∷ [])))
-  digit_step e f =
-      let no_letter : is_letter b ≡ false = grind (arith, nat_tests) in
-      plain_step (grind (arith, nat_tests)) (grind (arith, nat_tests)) (grind (arith, nat_tests))
-      ∙ ap (λ (t : Bool). if t then (if word_front g (b ∷ []) then Some (at g (InWord (b ∷ []))) else None) else if is_ascii_digit b then (if takes_number g then Some (at g (InNumber (b ∷ []))) else None) else (next_symbol g b >>= λ g'. Some (at g' Between))) no_letter
-      ∙ ap₂ (λ (t u : Bool). if t then (if u then Some (at g (InNumber (b ∷ []))) else None) else (next_symbol g b >>= λ g'. Some (at g' Between))) e f
+number_then : (g : State) (w : List ℕ) (ls : List Lexeme) (h : State) → Found ls → IsToken (Number w) → AreJoined Solid ls → (next_number g w >>= λ g'. parse g' (tokens_in ls)) ≡ Some h → run (at g Between) (w ++ spelling ls) ≡ whole h
+number_then g [] ls h found is j = absurd cc
+number_then g (b ∷ w) ls h found is j = go (next_number g (b ∷ w)) refl
+  where
+    go : (o : Option State) → next_number g (b ∷ w) ≡ o → (o >>= λ g'. parse g' (tokens_in ls)) ≡ Some h → run (at g Between) (b ∷ (w ++ spelling ls)) ≡ whole h
+    go None e p = absurd cc
+    go (Some g') e p =
+        let parts = and_parts (is_ascii_digit b) (list_all is_ascii_digit w) is in
+        first (at g Between) (at g (InNumber (b ∷ []))) b (w ++ spelling ls) (digit_step g b parts.0 (number_takes g (b ∷ w) g' e))
+        ∙ number_run g (b ∷ []) w (spelling ls) parts.1 ∙ number_solid g g' (b ∷ w) ls h e p j found
 
-  symbol_step : (g' : State) → next_symbol g b ≡ Some g' → is_symbol b ≡ true → step (at g Between) b ≡ Some (at g' Between)
-  symbol_step g' e s =
-      let no_letter : is_letter b ≡ false = grind (arith, nat_tests) in
-      let no_digit : is_ascii_digit b ≡ false = grind (arith, nat_tests) in
-      plain_step (grind (arith, nat_tests)) (grind (arith, nat_tests)) (grind (arith, nat_tests))
-      ∙ ap₂ (λ (t u : Bool). if t then (if word_front g (b ∷ []) then Some (at g (InWord (b ∷ []))) else None) else if u then (if takes_number g then Some (at g (InNumber (b ∷ []))) else None) else (next_symbol g b >>= λ g'. Some (at g' Between))) no_letter no_digit
-      ∙ ap (λ (o : Option State). o >>= λ g'. Some (at g' Between)) e
+line_begins : (g : State) (rest : List ℕ) → run (at g Between) (47 ∷ 47 ∷ rest) ≡ run (at g Line) rest
+unfolding step_in between in_slash
+line_begins g rest = refl
+
+block_begins : (g : State) (rest : List ℕ) → run (at g Between) (47 ∷ 42 ∷ rest) ≡ run (at g (Block false)) rest
+unfolding step_in between in_slash
+block_begins g rest = refl
+
+newline : (g : State) (b : ℕ) → b == 10 ≡ true → step (at g Line) b ≡ Some (at g Between)
+unfolding step_in
+newline g b e = ap (λ (t : Bool). if t then Some (at g Between) else Some (at g Line)) e
+
+loosen : (ls : List Lexeme) → AreJoined Solid ls → AreJoined Clear ls
+loosen [] j = tt
+loosen (l ∷ ls) j = (record { lexeme = j.0.lexeme; follows = refl }, j.1)
+
+-- lexemes that follow each other are scanned, and the script of their tokens is found
+lexemes_found : (ls : List Lexeme) → AreJoined Clear ls → (g h : State) → parse g (tokens_in ls) ≡ Some h → run (at g Between) (spelling ls) ≡ whole h
+lexemes_found [] j g h p = same_whole g h p
+lexemes_found (Blank b ∷ ls) j g h p = first (at g Between) (at g Between) b (spelling ls) (blank_step g b j.0.lexeme) ∙ lexemes_found ls j.1 g h p
+lexemes_found (LineComment bs ∷ []) j g h p = line_begins g (bs ++ []) ∙ line_run g bs [] j.0.lexeme ∙ same_whole g h p
+lexemes_found (LineComment bs ∷ Blank b ∷ ls) j g h p =
+    line_begins g (bs ++ b ∷ spelling ls) ∙ line_run g bs (b ∷ spelling ls) j.0.lexeme ∙ first (at g Line) (at g Between) b (spelling ls) (newline g b j.1.0.follows) ∙ lexemes_found ls j.1.1 g h p
+lexemes_found (LineComment bs ∷ LineComment cs ∷ ls) j g h p = absurd (let f = j.1.0.follows in cc)
+lexemes_found (LineComment bs ∷ BlockComment cs ∷ ls) j g h p = absurd (let f = j.1.0.follows in cc)
+lexemes_found (LineComment bs ∷ Proper t ∷ ls) j g h p = absurd (let f = j.1.0.follows in cc)
+lexemes_found (BlockComment bs ∷ ls) j g h p =
+    block_begins g ((bs ++ 42 ∷ 47 ∷ []) ++ spelling ls) ∙ ap (run (at g (Block false))) (append_assoc bs (42 ∷ 47 ∷ []) (spelling ls)) ∙ block_run g false bs (spelling ls) j.0.lexeme ∙ lexemes_found ls j.1 g h p
+lexemes_found (Proper (Word w) ∷ ls) j g h p = word_then g w ls h (lexemes_found ls (loosen ls j.1)) j.0.lexeme j.1 p
+lexemes_found (Proper (Number w) ∷ ls) j g h p = number_then g w ls h (lexemes_found ls (loosen ls j.1)) j.0.lexeme j.1 p
+lexemes_found (Proper (Text w) ∷ ls) j g h p = text_then g w ls h (lexemes_found ls j.1) j.0.lexeme p
+lexemes_found (Proper (Symbol b) ∷ ls) j g h p = symbol_then g b ls h (lexemes_found ls j.1) p
+
+-- each text's script is found
+pub text_found : (s : Script) (bytes : List ℕ) → IsText s bytes → run start_scan bytes ≡ Some s
+text_found s bytes h =
+    let q = script_parsed s h.script in
+    let t = h.spelled in
+    ap (run start_scan) (sym t.spelled) ∙ lexemes_found t.lexemes t.joined start (After s q.0 Items) (ap (parse start) t.tokens ∙ q.1)

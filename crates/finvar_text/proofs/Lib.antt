@@ -4,4 +4,5 @@ pub mod Layouts
 pub mod ByteSteps
 pub mod Endings
 pub mod Fronts
+pub mod Lexemes
 pub mod Completeness
