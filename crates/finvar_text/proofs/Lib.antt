@@ -6,3 +6,4 @@ pub mod Endings
 pub mod Fronts
 pub mod Lexemes
 pub mod Completeness
+pub mod Scans
