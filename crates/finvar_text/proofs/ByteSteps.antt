@@ -1,17 +1,17 @@
 -- What was read, by the state of the scanner: each byte that it takes is added to it.
-use Rattle.std.proofs.Common.{◌≡◌, ℕ, Bool, true, false, List, [], ◌∷◌, ◌++◌, Option, Some, None, IsTrue, if◌then◌else◌, sym, ap, ap₂, ◌∙◌, refl, subst, arith}
-use Rattle.std.specs.Prelude.{not, ◌==◌, ◌&&◌, ◌||◌, IfSome, nat_le}
+use Rattle.std.proofs.Common.{◌≡◌, ℕ, Bool, true, false, List, [], ◌∷◌, ◌++◌, Option, Some, None, if◌then◌else◌, sym, ap, ap₂, ◌∙◌, refl, subst, arith}
+use Rattle.std.specs.Prelude.{not, ◌==◌, ◌&&◌, IfSome}
 use Rattle.std.specs.List.{list_all}
 use Rattle.std.specs.Char.{is_ascii_digit}
 use Rattle.std.proofs.lemmas.Bool.{and_parts}
 use Rattle.std.proofs.lemmas.Bool.Decides.{nat_tests}
-use mathlib.Core.List.{append_assoc, append-nil}
+use mathlib.Core.List.{append_assoc}
 use Rattle.alg_core.specs.Names.{is_letter, is_name_byte}
-use Rattle.finvar_text.specs.Syntax.{Token, Word, Number, Text, Symbol, Lexeme, Blank, LineComment, BlockComment, Proper, lexeme_bytes, tokens_of, Side, Clear, Solid, Commented, is_solid, side, may_follow, IsLexeme, IsNext, IsToken, IsNumber, is_number, IsString, is_string_byte, is_open, is_blank, is_word}
+use Rattle.finvar_text.specs.Syntax.{Token, Word, Number, Text, Symbol, Lexeme, Blank, LineComment, BlockComment, Proper, lexeme_bytes, Side, Clear, Solid, Commented, is_solid, side, may_follow, IsToken, is_number, is_string_byte, is_open, is_blank, is_word}
 use Rattle.finvar_text.specs.Grammar.{State, next_symbol, next_word, next_number, next_text, takes_number, takes_text, word_front, ◌>>=◌}
 use Rattle.finvar_text.specs.Scanning.{Mode, Between, Slash, Line, Block, InWord, InNumber, InText, Scan, at, between, in_slash, in_block, in_word, in_number, in_text, step_in, step}
 use Rattle.finvar_text.proofs.TokenSteps.{read, Reads, next_adds}
-use Rattle.finvar_text.proofs.Layouts.{Layout, layout_more, gap_more, all_more, last_star, last_star_more, open_more, EndsWithStar, star_split}
+use Rattle.finvar_text.proofs.Layouts.{Layout, layout_more, gap_more, all_more, last_star, last_star_more, open_more, star_split}
 
 abbrev pub is_commented : Side → Bool
 is_commented Clear = false

@@ -1,15 +1,15 @@
 -- Each text is scanned, and its script is found.
-use Rattle.std.proofs.Common.{◌≡◌, ℕ, Bool, true, false, List, [], ◌∷◌, ◌++◌, Option, Some, None, if◌then◌else◌, sym, ap, ap₂, ◌∙◌, refl, subst, arith}
-use Rattle.std.specs.Prelude.{not, ◌==◌, ◌&&◌, ◌||◌, nat_le}
+use Rattle.std.proofs.Common.{◌≡◌, ℕ, Bool, true, false, List, [], ◌∷◌, ◌++◌, Option, Some, None, if◌then◌else◌, sym, ap, ap₂, ◌∙◌, refl, arith}
+use Rattle.std.specs.Prelude.{◌==◌}
 use Rattle.std.specs.List.{list_all}
 use Rattle.std.specs.Char.{is_ascii_digit}
 use Rattle.std.proofs.lemmas.Bool.{and_parts}
 use Rattle.std.proofs.lemmas.Bool.Decides.{nat_tests}
-use mathlib.Core.List.{append_assoc, append-nil}
+use mathlib.Core.List.{append_assoc}
 use Rattle.alg_core.specs.Names.{is_letter, is_name_byte}
 use Rattle.finvar_text.specs.Syntax.{Script, Token, Word, Number, Text, Symbol, Lexeme, Blank, LineComment, BlockComment, Proper, lexeme_bytes, spelling, tokens_of, tokens_in, Clear, Solid, IsNext, AreJoined, IsToken, IsText, is_blank, is_string_byte}
 use Rattle.finvar_text.specs.Grammar.{State, After, Items, start, next_symbol, next_word, next_number, next_text, whole, word_front, takes_text, parse, ◌>>=◌}
-use Rattle.finvar_text.specs.Scanning.{Between, Line, Block, InWord, InNumber, InText, Scan, at, start_scan, between, in_slash, in_word, in_number, in_text, step_in, step, finish}
+use Rattle.finvar_text.specs.Scanning.{Between, Line, Block, InWord, InNumber, InText, Scan, at, start_scan, between, in_slash, in_word, in_number, in_text, step_in, step}
 use Rattle.finvar_text.proofs.TokenTexts.{script_parsed}
 use Rattle.finvar_text.proofs.Endings.{run, run_after}
 use Rattle.finvar_text.proofs.Fronts.{word_scanned}

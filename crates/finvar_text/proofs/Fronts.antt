@@ -1,8 +1,7 @@
 -- Each state of the scanner is that of the front of a text.
-use Rattle.std.proofs.Common.{◌≡◌, ℕ, Bool, true, false, List, [], ◌∷◌, ◌++◌, length, get_or, Option, Some, None, IsTrue, if◌then◌else◌, sym, ap, ap₂, ◌∙◌, refl, subst, arith}
-use Rattle.std.specs.Prelude.{codes, not, ◌==◌, ◌&&◌, ◌||◌, IfSome}
+use Rattle.std.proofs.Common.{◌≡◌, ℕ, Bool, true, false, List, [], ◌∷◌, ◌++◌, length, get_or, Option, Some, None, if◌then◌else◌, sym, ap, ap₂, ◌∙◌, refl, subst, arith}
+use Rattle.std.specs.Prelude.{codes, ◌==◌, ◌&&◌, ◌||◌, IfSome}
 use Rattle.std.specs.List.{list_all}
-use Rattle.std.specs.Char.{is_ascii_digit}
 use Rattle.std.specs.Bool.{Decides}
 use Rattle.std.specs.Str.{bytes_eq}
 use Rattle.std.proofs.lemmas.Slice.Eq.{bytes_eq-Decides}
@@ -11,16 +10,12 @@ use Rattle.std.proofs.lemmas.Bool.{and_parts}
 use Rattle.std.proofs.lemmas.Bool.Decides.{nat_tests}
 use Rattle.std.proofs.lemmas.List.{length-append}
 use mathlib.Core.List.{append_assoc, append-nil}
-use Rattle.alg_core.specs.Names.{is_letter, is_name_byte, is_reserved}
-use Rattle.finvar_text.specs.Syntax.{Entry, Script, Item, Lib, Declared, Printed, Called, Token, Word, Number, Text, Symbol, Lexeme, LineComment, Proper, lexeme_bytes, tokens, Side, Clear, Solid, Commented, side, IsNext, IsToken, IsText, IsFront}
-use Rattle.finvar_text.specs.Grammar.{Opening, Libs, LibText, LibEnd, RingName, RingEquals, Characteristic, CharacteristicEnd, Variables, Variable, VariableEnd, VariablesEnd, Order, RingEnd, Matrix, Rows, RowsEnd, ColsStart, Cols, ColsEnd, MatrixEquals, EntryStart, Digits, EntryEnd, Call, Second, SecondEnd, Third, ThirdEnd, InvariantRing, CallOpen, Argument, ArgumentEnd, CallEnd, Printing, PrintOpen, PrintName, PrintClose, PrintEnd, Body, Items, ItemText, ItemTextEnd, MatrixName, MatrixNamed, InMatrix, InCall, InPrint, State, Before, After, start, opening_symbol, matrix_symbol, call_symbol, print_symbol, body_symbol, next_symbol, opening_word, call_word, printing_word, body_word, next_word, matrix_number, opening_number, body_number, next_number, opening_text, body_text, next_text, next, with_item, whole, begins, word_front, opening_front, body_front, call_front, print_front, takes_number, takes_text, ◌>>=◌}
-use Rattle.finvar_text.specs.Scanning.{Mode, Between, Slash, Line, Block, InWord, InNumber, InText, Scan, at, start_scan, between, in_slash, in_block, in_word, in_number, in_text, step_in, step, scan, finish, finish_in}
-use Rattle.finvar_text.proofs.TokenSteps.{read, Reads, next_adds}
-use Rattle.finvar_text.proofs.TokenTexts.{Ends, whole_script}
-use Rattle.finvar_text.proofs.Layouts.{Layout, layout_more, gap_more}
-use Rattle.finvar_text.proofs.ByteSteps.{IsRead, IsReadIn, InToken, bind_some, loose, step_adds}
-
-use Rattle.finvar_text.proofs.Endings.{Finds, run, run_text, Completes, by_way, state_done, libs_done, lib_text, ring_name, ring_end, call_open}
+use Rattle.alg_core.specs.Names.{is_name_byte, is_reserved}
+use Rattle.finvar_text.specs.Syntax.{Script, IsFront}
+use Rattle.finvar_text.specs.Grammar.{Opening, Libs, LibText, LibEnd, RingName, RingEquals, Characteristic, CharacteristicEnd, Variables, Variable, VariableEnd, VariablesEnd, Order, RingEnd, Matrix, Rows, RowsEnd, ColsStart, Cols, ColsEnd, MatrixEquals, EntryStart, Digits, EntryEnd, Call, Second, SecondEnd, Third, ThirdEnd, InvariantRing, CallOpen, Argument, ArgumentEnd, CallEnd, Printing, PrintOpen, PrintName, PrintClose, PrintEnd, Body, Items, ItemText, ItemTextEnd, MatrixName, MatrixNamed, InMatrix, InCall, InPrint, State, Before, After, opening_word, call_word, printing_word, body_word, next_word, matrix_number, opening_number, body_number, next_number, opening_text, body_text, next_text, begins, word_front, opening_front, body_front, call_front, print_front, takes_number, takes_text, ◌>>=◌}
+use Rattle.finvar_text.specs.Scanning.{Mode, Between, Slash, Line, Block, InWord, InNumber, InText, Scan, at, between, in_slash, in_block, in_word, in_number, in_text, step_in, scan}
+use Rattle.finvar_text.proofs.ByteSteps.{IsRead, IsReadIn}
+use Rattle.finvar_text.proofs.Endings.{Finds, run_text, Completes, by_way, state_done, lib_text, ring_name, ring_end, call_open}
 
 begins_append : (w rest : List ℕ) → begins w (w ++ rest) ≡ true
 begins_append [] rest = refl

@@ -1,13 +1,13 @@
 -- Lists of lexemes that grow at their ends, and what was read by the state of the scanner: each byte that it takes is added to it.
-use Rattle.std.proofs.Common.{◌≡◌, ℕ, Bool, true, false, List, [], ◌∷◌, ◌++◌, Option, Some, None, IsTrue, if◌then◌else◌, sym, ap, ap₂, ◌∙◌, refl, subst, arith}
-use Rattle.std.specs.Prelude.{not, ◌==◌, ◌&&◌, ◌||◌, IfSome}
+use Rattle.std.proofs.Common.{◌≡◌, ℕ, Bool, true, false, List, [], ◌∷◌, ◌++◌, sym, ap, ap₂, ◌∙◌, refl, subst, arith}
+use Rattle.std.specs.Prelude.{not, ◌==◌, ◌&&◌}
 use Rattle.std.specs.List.{list_all}
 use Rattle.std.proofs.lemmas.Bool.{and_parts}
 use Rattle.std.proofs.lemmas.Bool.Decides.{nat_tests}
 use mathlib.Core.List.{append_assoc, append-nil}
-use Rattle.finvar_text.specs.Syntax.{Token, Lexeme, lexeme_bytes, spelling, tokens_of, tokens_in, Side, Clear, side, may_follow, IsLexeme, IsNext, AreJoined, is_open}
-use Rattle.finvar_text.specs.Grammar.{State, start, next}
-use Rattle.finvar_text.proofs.TokenSteps.{read, IsState, Reads, next_adds}
+use Rattle.finvar_text.specs.Syntax.{Token, Lexeme, lexeme_bytes, spelling, tokens_of, tokens_in, Side, Clear, side, IsNext, AreJoined, is_open}
+use Rattle.finvar_text.specs.Grammar.{State}
+use Rattle.finvar_text.proofs.TokenSteps.{read, IsState, Reads}
 
 -- what stands at the end, after p
 abbrev pub last_side : Side → List Lexeme → Side

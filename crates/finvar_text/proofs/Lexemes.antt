@@ -1,6 +1,6 @@
 -- Each part of a spelling is scanned.
-use Rattle.std.proofs.Common.{◌≡◌, ℕ, Bool, true, false, List, [], ◌∷◌, ◌++◌, Option, Some, None, IsTrue, if◌then◌else◌, sym, ap, ap₂, ◌∙◌, refl, subst, arith}
-use Rattle.std.specs.Prelude.{codes, not, ◌==◌, ◌&&◌, ◌||◌, IfSome, nat_le}
+use Rattle.std.proofs.Common.{◌≡◌, ℕ, Bool, true, false, List, [], ◌∷◌, ◌++◌, Option, Some, None, if◌then◌else◌, sym, ap, ap₂, ◌∙◌, refl, subst, arith}
+use Rattle.std.specs.Prelude.{codes, not, ◌==◌, ◌&&◌, ◌||◌}
 use Rattle.std.specs.List.{list_all}
 use Rattle.std.specs.Char.{is_ascii_digit}
 use Rattle.std.specs.Bool.{Decides}
@@ -9,13 +9,12 @@ use Rattle.std.proofs.lemmas.Slice.Eq.{bytes_eq-Decides}
 use Rattle.std.proofs.lemmas.Bool.{and_parts, not-true}
 use Rattle.std.proofs.lemmas.Bool.Decides.{nat_tests}
 use mathlib.Core.List.{append_assoc, append-nil}
-use Rattle.alg_core.specs.Names.{is_letter, is_name_byte, is_reserved}
-use Rattle.finvar_text.specs.Syntax.{Script, Token, Word, Number, Text, Symbol, Lexeme, Blank, LineComment, BlockComment, Proper, lexeme_bytes, spelling, tokens_of, tokens_in, tokens, Side, Clear, Solid, Commented, side, IsNext, AreJoined, IsToken, IsText, is_blank, is_open, is_word, is_number, is_string_byte}
-use Rattle.finvar_text.specs.Grammar.{Opening, Libs, LibText, LibEnd, RingName, RingEquals, Characteristic, CharacteristicEnd, Variables, Variable, VariableEnd, VariablesEnd, Order, RingEnd, Matrix, Rows, RowsEnd, ColsStart, Cols, ColsEnd, MatrixEquals, EntryStart, Digits, EntryEnd, Call, Second, SecondEnd, Third, ThirdEnd, InvariantRing, CallOpen, Argument, ArgumentEnd, CallEnd, Printing, PrintOpen, PrintName, PrintClose, PrintEnd, Body, Items, ItemText, ItemTextEnd, MatrixName, MatrixNamed, InMatrix, InCall, InPrint, State, Before, After, start, opening_symbol, matrix_symbol, call_symbol, print_symbol, body_symbol, next_symbol, opening_word, call_word, printing_word, body_word, next_word, matrix_number, opening_number, body_number, next_number, opening_text, body_text, next_text, next, whole, symbol, begins, word_front, opening_front, body_front, call_front, print_front, takes_number, takes_text, is_some, parse, ◌>>=◌}
-use Rattle.finvar_text.specs.Scanning.{Mode, Between, Slash, Line, Block, InWord, InNumber, InText, Scan, at, start_scan, between, in_slash, in_block, in_word, in_number, in_text, step_in, step, finish}
-use Rattle.finvar_text.proofs.TokenTexts.{script_parsed}
-use Rattle.finvar_text.proofs.Endings.{run, run_after}
-use Rattle.finvar_text.proofs.Fronts.{begins_word, word_scanned}
+use Rattle.alg_core.specs.Names.{is_letter}
+use Rattle.finvar_text.specs.Syntax.{Script, is_blank, is_open, is_string_byte}
+use Rattle.finvar_text.specs.Grammar.{Opening, Libs, LibText, LibEnd, RingName, RingEquals, Characteristic, CharacteristicEnd, Variables, Variable, VariableEnd, VariablesEnd, Order, RingEnd, Matrix, Rows, RowsEnd, ColsStart, Cols, ColsEnd, MatrixEquals, EntryStart, Digits, EntryEnd, Call, Second, SecondEnd, Third, ThirdEnd, InvariantRing, CallOpen, Argument, ArgumentEnd, CallEnd, Printing, PrintOpen, PrintName, PrintClose, PrintEnd, Body, Items, ItemText, ItemTextEnd, MatrixName, MatrixNamed, InMatrix, InCall, InPrint, State, Before, After, opening_symbol, matrix_symbol, call_symbol, print_symbol, body_symbol, next_symbol, opening_word, call_word, printing_word, body_word, next_word, matrix_number, opening_number, body_number, next_number, opening_text, body_text, next_text, symbol, begins, word_front, opening_front, body_front, call_front, print_front, takes_number, takes_text, is_some, ◌>>=◌}
+use Rattle.finvar_text.specs.Scanning.{Between, Slash, Line, Block, InWord, InNumber, InText, Scan, at, between, in_block, in_number, in_text, step_in, step}
+use Rattle.finvar_text.proofs.Endings.{run}
+use Rattle.finvar_text.proofs.Fronts.{begins_word}
 
 -- the symbols of scripts: ( ) , - ; = [ ]
 abbrev pub is_symbol : ℕ → Bool

@@ -7,3 +7,4 @@ pub mod Fronts
 pub mod Lexemes
 pub mod Completeness
 pub mod Scans
+pub mod ScanSteps

@@ -1,5 +1,5 @@
 -- What was read of a script, by the state after its tokens: each token that may follow is added to it.
-use Rattle.std.proofs.Common.{◌≡◌, ℕ, zero, suc, ◌+◌, ◌≤◌, Bool, true, false, List, [], ◌∷◌, ◌++◌, length, All, Option, Some, None, IsTrue, if◌then◌else◌, sym, ap, ap₂, ◌∙◌, refl, subst, arith}
+use Rattle.std.proofs.Common.{◌≡◌, ℕ, ◌+◌, ◌≤◌, Bool, true, false, List, [], ◌∷◌, ◌++◌, length, All, Option, Some, None, if◌then◌else◌, sym, ap, ap₂, ◌∙◌, refl, subst, arith}
 use Rattle.std.specs.Prelude.{codes, not, ◌==◌, ◌&&◌, IfSome}
 use Rattle.std.specs.List.{list_all}
 use Rattle.std.specs.Str.{bytes_eq}
@@ -9,8 +9,8 @@ use Rattle.std.proofs.lemmas.Bool.Decides.{nat_tests}
 use Rattle.std.proofs.lemmas.Bool.{and_parts}
 use Rattle.std.proofs.lemmas.List.Elements.{All-push, All-nil}
 use mathlib.Core.List.{append_assoc, append-nil}
-use Rattle.alg_core.specs.Names.{is_letter, is_name_byte, is_reserved, is_name}
-use Rattle.finvar_text.specs.Syntax.{Entry, Item, Lib, Declared, Printed, Called, Script, Token, Word, Number, Text, Symbol, lib_word, ring_word, matrix_word, print_word, invariant_ring_word, dp_word, comma, semicolon, equals, minus, opens, closes, opens_square, closes_square, further, listed, word_tokens, lib_tokens, entry_tokens, matrix_head, matrix_tokens, call_head, call_tokens, print_tokens, item_tokens, joined, ring_head, variables_tokens, ring_tokens, tokens, IsName, IsNumber, IsString, IsEntry, IsSome, IsItem, IsScript, calls, IsToken, is_word}
+use Rattle.alg_core.specs.Names.{is_letter, is_name_byte, is_reserved}
+use Rattle.finvar_text.specs.Syntax.{Entry, Item, Lib, Declared, Printed, Called, Script, Token, Word, Number, Text, Symbol, lib_word, ring_word, matrix_word, print_word, invariant_ring_word, dp_word, comma, semicolon, equals, minus, opens, closes, opens_square, closes_square, further, listed, word_tokens, lib_tokens, entry_tokens, matrix_head, call_head, item_tokens, joined, ring_head, variables_tokens, ring_tokens, tokens, IsName, IsNumber, IsString, IsEntry, IsSome, IsItem, IsScript, calls, IsToken}
 use Rattle.finvar_text.specs.Grammar.{Opening, Libs, LibText, LibEnd, RingName, RingEquals, Characteristic, CharacteristicEnd, Variables, Variable, VariableEnd, VariablesEnd, Order, RingEnd, Matrix, Rows, RowsEnd, ColsStart, Cols, ColsEnd, MatrixEquals, EntryStart, Digits, EntryEnd, Call, Second, SecondEnd, Third, ThirdEnd, InvariantRing, CallOpen, Argument, ArgumentEnd, CallEnd, Printing, PrintOpen, PrintName, PrintClose, PrintEnd, Body, Items, ItemText, ItemTextEnd, MatrixName, MatrixNamed, InMatrix, InCall, InPrint, State, Before, After, symbol, keyword, named, opening_symbol, matrix_symbol, call_symbol, print_symbol, body_symbol, next_symbol, opening_word, call_word, printing_word, body_word, next_word, matrix_number, opening_number, body_number, next_number, opening_text, body_text, next_text, next, with_item}
 
 -- what stands before the next member of a list
@@ -231,8 +231,9 @@ opening_symbol_reads libs (VariableEnd r c vs) b l h =
 opening_symbol_reads libs (VariablesEnd r c p vs) b l h = symbol_reads 44 b _ _ (more (joined lib_tokens libs) (opening_read (VariablesEnd r c p vs)) comma, (l, h))
 opening_symbol_reads libs (Order r c p vs) b l h = tt
 opening_symbol_reads libs (RingEnd r c p vs) b l h = symbol_reads 59 b _ _ (
-    append-nil _ ∙ ap (λ (ts : List Token). joined lib_tokens libs ++ ts) (append-nil _ ∙ ap (λ (ts : List Token). ring_head r c ++ ts) (sym (append_assoc (variables_tokens p vs) (comma ∷ dp_word ∷ []) (semicolon ∷ [])))) ∙ more (joined lib_tokens libs) (opening_read (RingEnd r c p vs)) semicolon,
-    (record {
+  append-nil _ ∙ ap (λ (ts : List Token). joined lib_tokens libs ++ ts) (append-nil _ ∙ ap (λ (ts : List Token). ring_head r c ++ ts) (sym (append_assoc (variables_tokens p vs) (comma ∷ dp_word ∷ []) (semicolon ∷ [])))) ∙ more (joined lib_tokens libs) (opening_read (RingEnd r c p vs)) semicolon,
+  (
+    record {
       script = record {
         libs = l;
         ring = h.0;
@@ -244,7 +245,10 @@ opening_symbol_reads libs (RingEnd r c p vs) b l h = symbol_reads 59 b _ _ (
         calls = omega arith;
       };
       without = λ e. refl;
-    }, tt))
+    },
+    tt,
+  ),
+)
 
 calls_more : (is : List Item) (i : Item) → calls (is ++ i ∷ []) ≡ calls is + calls (i ∷ [])
 calls_more [] i = omega arith
@@ -361,9 +365,9 @@ opening_word_reads libs (Characteristic r) w l h t = tt
 opening_word_reads libs (CharacteristicEnd r c) w l h t = tt
 opening_word_reads libs (Variables r c) w l h t = named_reads w _ _ t (λ n. (more (joined lib_tokens libs) (opening_read (Variables r c)) (Word w), (l, (h.0, h.1, one_name w n))))
 opening_word_reads libs (Variable r c vs) w l h t = named_reads w _ _ t (λ n. (
-      ap (λ (ts : List Token). joined lib_tokens libs ++ (ring_head r c ++ opens ∷ ts)) (listed_more word_tokens vs w) ∙ more (joined lib_tokens libs) (opening_read (Variable r c vs)) (Word w),
-      (l, (h.0, h.1, record { names = All-push IsName vs w h.2 n; some = some_more vs w; single = λ e. absurd cc })),
-    ))
+  ap (λ (ts : List Token). joined lib_tokens libs ++ (ring_head r c ++ opens ∷ ts)) (listed_more word_tokens vs w) ∙ more (joined lib_tokens libs) (opening_read (Variable r c vs)) (Word w),
+  (l, (h.0, h.1, record { names = All-push IsName vs w h.2 n; some = some_more vs w; single = λ e. absurd cc })),
+))
 opening_word_reads libs (VariableEnd r c vs) w l h t = tt
 opening_word_reads libs (VariablesEnd r c p vs) w l h t = tt
 opening_word_reads libs (Order r c p vs) w l h t = keyword_reads (codes "dp") w _ _ (ap (λ (ts : List Token). joined lib_tokens libs ++ (ring_head r c ++ ts)) (sym (append_assoc (variables_tokens p vs) (comma ∷ []) (dp_word ∷ []))) ∙ more (joined lib_tokens libs) (opening_read (Order r c p vs)) dp_word, (l, h))
@@ -378,9 +382,9 @@ call_word_reads s k (ThirdEnd x y z) w p f h t = tt
 call_word_reads s k (InvariantRing x y z) w p f h t = keyword_reads (codes "invariant_ring") w _ _ (more (tokens s) (call_read (InvariantRing x y z)) invariant_ring_word, (p, (f, h)))
 call_word_reads s k (CallOpen x y z) w p f h t = tt
 call_word_reads s k (Argument x y z ws) w p f h t = named_reads w _ _ t (λ n. (
-      ap (λ (ts : List Token). tokens s ++ (call_head x y z ++ ts)) (listed_more word_tokens ws w) ∙ more (tokens s) (call_read (Argument x y z ws)) (Word w),
-      (p, (f, (h.0, h.1, h.2, All-push IsName ws w h.3 n, some_more ws w))),
-    ))
+  ap (λ (ts : List Token). tokens s ++ (call_head x y z ++ ts)) (listed_more word_tokens ws w) ∙ more (tokens s) (call_read (Argument x y z ws)) (Word w),
+  (p, (f, (h.0, h.1, h.2, All-push IsName ws w h.3 n, some_more ws w))),
+))
 call_word_reads s k (ArgumentEnd x y z ws) w p f h t = tt
 call_word_reads s k (CallEnd x y z ws) w p f h t = tt
 

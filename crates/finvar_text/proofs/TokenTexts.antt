@@ -1,6 +1,6 @@
 -- The tokens of a script are read, and the script is found.
-use Rattle.std.proofs.Common.{◌≡◌, ℕ, zero, suc, ◌+◌, ◌≤◌, Bool, true, false, List, [], ◌∷◌, ◌++◌, length, All, Option, Some, None, IsTrue, if◌then◌else◌, sym, ap, ap₂, ◌∙◌, refl, subst, arith}
-use Rattle.std.specs.Prelude.{codes, not, ◌==◌, ◌&&◌, ◌||◌, IfSome}
+use Rattle.std.proofs.Common.{◌≡◌, ℕ, ◌+◌, ◌≤◌, Bool, true, false, List, [], ◌∷◌, ◌++◌, length, All, Option, Some, None, if◌then◌else◌, sym, ap, ◌∙◌, refl, arith}
+use Rattle.std.specs.Prelude.{codes, not, ◌&&◌, ◌||◌, IfSome}
 use Rattle.std.specs.List.{list_all, AllByRecursion}
 use Rattle.std.specs.Str.{bytes_eq}
 use Rattle.std.specs.Bool.{Decides}
@@ -8,10 +8,10 @@ use Rattle.std.proofs.lemmas.Slice.Eq.{bytes_eq-Decides}
 use Rattle.std.proofs.lemmas.Bool.{and_parts, not-true}
 use Rattle.std.proofs.lemmas.List.Elements.{recursion_from_All}
 use mathlib.Core.List.{append_assoc, append-nil}
-use Rattle.alg_core.specs.Names.{is_letter, is_name_byte, is_reserved, is_name}
-use Rattle.finvar_text.specs.Syntax.{Entry, Item, Lib, Declared, Printed, Called, Script, Token, Word, Number, Text, Symbol, lib_word, ring_word, matrix_word, print_word, invariant_ring_word, dp_word, comma, semicolon, equals, minus, opens, closes, opens_square, closes_square, further, listed, word_tokens, lib_tokens, entry_tokens, matrix_head, matrix_tokens, call_head, call_tokens, print_tokens, item_tokens, joined, ring_head, variables_tokens, ring_tokens, tokens, IsName, IsNumber, IsString, IsEntry, IsSome, IsItem, IsScript, calls, IsToken, is_word}
-use Rattle.finvar_text.specs.Grammar.{Libs, LibText, LibEnd, RingName, RingEquals, Characteristic, CharacteristicEnd, Variables, Variable, VariableEnd, VariablesEnd, Order, RingEnd, Rows, RowsEnd, ColsStart, Cols, ColsEnd, MatrixEquals, EntryStart, Digits, EntryEnd, Second, SecondEnd, Third, ThirdEnd, InvariantRing, CallOpen, Argument, ArgumentEnd, CallEnd, PrintOpen, PrintName, PrintClose, PrintEnd, Body, Items, ItemText, ItemTextEnd, MatrixName, MatrixNamed, InMatrix, InCall, InPrint, State, Before, After, start, opening_symbol, matrix_symbol, call_symbol, print_symbol, body_symbol, next_symbol, opening_word, call_word, printing_word, body_word, next_word, matrix_number, opening_number, body_number, next_number, opening_text, body_text, next_text, next, with_item, whole, body_whole, parse, ◌>>=◌}
-use Rattle.finvar_text.proofs.TokenSteps.{read, IsState, Reads}
+use Rattle.alg_core.specs.Names.{is_letter, is_name_byte, is_reserved}
+use Rattle.finvar_text.specs.Syntax.{Entry, Item, Lib, Declared, Printed, Called, Script, Token, Word, Number, invariant_ring_word, dp_word, comma, semicolon, equals, opens, closes, opens_square, closes_square, further, listed, word_tokens, lib_tokens, entry_tokens, matrix_tokens, call_tokens, print_tokens, item_tokens, joined, variables_tokens, ring_tokens, tokens, IsName, IsEntry, IsSome, IsItem, IsScript, calls}
+use Rattle.finvar_text.specs.Grammar.{Libs, RingEquals, Variables, Variable, VariableEnd, VariablesEnd, EntryStart, EntryEnd, SecondEnd, ThirdEnd, Argument, ArgumentEnd, PrintOpen, PrintClose, PrintEnd, Body, Items, ItemText, ItemTextEnd, MatrixName, MatrixNamed, InMatrix, InCall, InPrint, State, Before, After, start, opening_symbol, matrix_symbol, call_symbol, print_symbol, body_symbol, next_symbol, opening_word, call_word, printing_word, body_word, next_word, matrix_number, opening_number, body_number, next_number, opening_text, body_text, next_text, next, with_item, whole, body_whole, parse, ◌>>=◌}
+use Rattle.finvar_text.proofs.TokenSteps.{read, IsState}
 
 -- where a script may end
 abbrev pub Ends : State → Script → Type 0
@@ -207,6 +207,8 @@ pub script_parsed : (s : Script) → IsScript s → (k : Bool) × (parse start (
 script_parsed s h =
     let few = h.calls in
     let first : Script = record { libs = s.libs; ring = s.ring; characteristic = s.characteristic; in_parentheses = s.in_parentheses; variables = s.variables; items = [] } in
-    let r = items_parsed first false s.items (recursion_from_All IsItem s.items h.items) (omega (arith, few)) in
-    (r.0, libs_then [] s.libs (ring_tokens s.ring s.characteristic s.in_parentheses s.variables ++ joined item_tokens s.items)
-    ∙ ring_then s.libs s.ring s.characteristic s.in_parentheses s.variables (joined item_tokens s.items) h.ring h.variables h.some h.single ∙ r.1)
+    let r = items_parsed first false s.items (recursion_from_All IsItem s.items h.items) (omega (arith, few)) in (
+      r.0,
+      libs_then [] s.libs (ring_tokens s.ring s.characteristic s.in_parentheses s.variables ++ joined item_tokens s.items)
+          ∙ ring_then s.libs s.ring s.characteristic s.in_parentheses s.variables (joined item_tokens s.items) h.ring h.variables h.some h.single ∙ r.1,
+    )

@@ -11,7 +11,7 @@
 --   word_front s w          some word that may follow begins with w, which is a letter and name bytes
 --   parse s ts              the state after these tokens
 --   whole s                 the script, where it may end here
-use Rattle.std.specs.Prelude.{◌≡◌, ℕ, Bool, true, false, ◌&&◌, ◌||◌, ◌==◌, not, List, [], ◌∷◌, ◌++◌, codes, Option, Some, None, if◌then◌else◌}
+use Rattle.std.specs.Prelude.{ℕ, Bool, true, false, ◌&&◌, ◌||◌, ◌==◌, List, [], ◌∷◌, ◌++◌, codes, Option, Some, None, if◌then◌else◌}
 use Rattle.std.specs.Str.{bytes_eq}
 use Rattle.alg_core.specs.Names.{is_reserved}
 use Rattle.finvar_text.specs.Syntax.{Entry, Item, Lib, Declared, Printed, Called, Script, Token, Word, Number, Text, Symbol}

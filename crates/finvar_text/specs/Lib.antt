@@ -2,3 +2,5 @@ pub mod Syntax
 pub mod Trees
 pub mod Grammar
 pub mod Scanning
+pub mod Parsers
+pub mod Scanners

@@ -7,7 +7,7 @@
 --                   any mode; None where the byte may not follow
 --   scan s bytes    after these bytes
 --   finish s        the script, where it may end here
-use Rattle.std.specs.Prelude.{ℕ, Bool, true, false, ◌&&◌, ◌==◌, List, [], ◌∷◌, ◌++◌, Option, Some, None, if◌then◌else◌}
+use Rattle.std.specs.Prelude.{ℕ, Bool, false, ◌&&◌, ◌==◌, List, [], ◌∷◌, ◌++◌, Option, Some, None, if◌then◌else◌}
 use Rattle.std.specs.Char.{is_ascii_digit}
 use Rattle.alg_core.specs.Names.{is_letter, is_name_byte}
 use Rattle.finvar_text.specs.Syntax.{Script, is_blank}

@@ -23,7 +23,7 @@
 --   IsText s bytes         the bytes spell the tokens of the script s
 --   IsFront bytes          the bytes begin some text
 --   IsFirstFault bytes n   the bytes are no text, and the longest front among their beginnings has the length n
-use Rattle.std.specs.Prelude.{◌≡◌, ◌↔◌, ℕ, zero, suc, ◌≤◌, Bool, true, false, ◌&&◌, ◌||◌, ◌==◌, not, IsTrue, List, [], ◌∷◌, ◌++◌, length, take, All, codes, if◌then◌else◌}
+use Rattle.std.specs.Prelude.{◌≡◌, ◌↔◌, ℕ, suc, ◌≤◌, Bool, true, false, ◌&&◌, ◌||◌, ◌==◌, not, IsTrue, List, [], ◌∷◌, ◌++◌, length, take, All, codes, if◌then◌else◌}
 use Rattle.std.specs.List.{list_all}
 use Rattle.std.specs.Char.{is_ascii_digit}
 use Rattle.alg_core.specs.Names.{is_name, is_letter, is_name_byte}

@@ -2,6 +2,10 @@
 #![tactic(auto)]
 
 mod laws;
+mod scan;
+mod scan_symbols;
+mod scan_tokens;
+mod scan_words;
 mod syntax;
 
 pub use laws::trees_of_texts;
