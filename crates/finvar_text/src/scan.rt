@@ -91,7 +91,7 @@ impl<'a> Scanner<'a> {
             return self.open_word(text, place);
         }
         if byte.is_ascii_digit() {
-            return self.open_number(text, place);
+            return self.open_number(place);
         }
         self.parser.take_symbol(alloc, byte)?;
         self.mode = Mode::Between;
@@ -123,13 +123,11 @@ impl<'a> Scanner<'a> {
         Ok(())
     }
 
-    /// Opens a number.
-    fn open_number(&mut self, text: &[u8], place: usize) -> Result<(), ScanError>
-        requires within { place < length text.now }
-        ensures is { Takes result (scan_of text.now (place + 1) self.new) (if takes_number (state_of self.old.parser) then Some (at (state_of self.old.parser) (InNumber (slice_index text.now place ∷ []))) else None) }
+    /// Opens a number, whose first digit stands at the place.
+    fn open_number(&mut self, place: usize) -> Result<(), ScanError>
+        ensures is { (text : List ℕ) → place < length text → Takes result (scan_of text (place + 1) self.new) (if takes_number (state_of self.old.parser) then Some (at (state_of self.old.parser) (InNumber (slice_index text place ∷ []))) else None) }
         ensures ordered { OnOk result (IsOrdered (place + 1) self.new) }
     {
-        let _byte = text[place];
         if !self.parser.takes_number() {
             return Err(ScanError::Unexpected);
         }
