@@ -1,14 +1,14 @@
 //! The syntax tree of a script, byte by byte.
 
 ghost use Rattle.std.specs.Prelude.{◌≡◌, ◌<◌, ◌≤◌, ◌+◌, ◌-◌, ℕ, List, [], ◌∷◌, take, drop, length, slice_index, OnOk, IfOk, IfErr, Some, None, if◌then◌else◌};
-ghost use Rattle.alg_core.specs.Names.{is_letter, is_name_byte};
+ghost use Rattle.alg_core.specs.Names.{is_name_byte};
 ghost use Rattle.finvar_text.specs.declared.scan.Mode.TheVariants as modes;
 ghost use Rattle.finvar_text.specs.Syntax.{IsText, is_blank};
 ghost use Rattle.finvar_text.specs.Trees.{script_of};
 ghost use Rattle.finvar_text.specs.Parsers.{state_of, Takes, Finishes};
 ghost use Rattle.finvar_text.specs.Grammar.{takes_text, takes_number, word_front};
-ghost use Rattle.finvar_text.specs.Scanning.{start_scan, at, InText, InWord, InNumber, between, in_slash, in_block, in_word, in_number, in_text, step, finish};
-ghost use Rattle.finvar_text.specs.Scanners.{mode_of, scan_of, IsOrdered, fault_at, IsSyntaxFault};
+ghost use Rattle.finvar_text.specs.Scanning.{start_scan, at, InText, InWord, InNumber, between, in_slash, in_word, in_number, in_text, step, finish};
+ghost use Rattle.finvar_text.specs.Scanners.{scan_of, IsOrdered, fault_at, IsSyntaxFault};
 
 use crate::scan_tokens::{Parser, ScanError};
 use crate::syntax::ScriptText;
