@@ -45,12 +45,7 @@ impl<'a> Parser<'a> {
                 self.script.variables = Vec::new(alloc);
                 OpeningPosition::Variable
             }
-            OpeningPosition::VariableEnd if byte == b',' => OpeningPosition::Variable,
-            OpeningPosition::VariableEnd => {
-                expect_symbol(byte, b')')?;
-                self.script.in_parentheses = true;
-                OpeningPosition::VariablesEnd
-            }
+            OpeningPosition::VariableEnd => return self.after_variable(byte),
             OpeningPosition::VariablesEnd => {
                 expect_symbol(byte, b',')?;
                 OpeningPosition::Order
@@ -59,6 +54,21 @@ impl<'a> Parser<'a> {
             _ => return Err(ScanError::Unexpected),
         };
         self.position = Position::Opening(next);
+        Ok(())
+    }
+
+    /// Takes the symbol after a variable in parentheses.
+    #[tactic(auto, unfolding(crate::specs::Grammar::opening_symbol))]
+    fn after_variable(&mut self, byte: u8) -> Result<(), ScanError>
+        ensures is { Takes result (state_of self.new) (opening_symbol (bytes_of self.old.script.libs.items) (opening_of self.old openings.VariableEnd) byte) }
+    {
+        if byte == b',' {
+            self.position = Position::Opening(OpeningPosition::Variable);
+            return Ok(());
+        }
+        expect_symbol(byte, b')')?;
+        self.script.in_parentheses = true;
+        self.position = Position::Opening(OpeningPosition::VariablesEnd);
         Ok(())
     }
 
