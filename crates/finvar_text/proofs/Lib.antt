@@ -1,0 +1,10 @@
+pub mod TokenSteps
+pub mod TokenTexts
+pub mod Layouts
+pub mod ByteSteps
+pub mod Endings
+pub mod Fronts
+pub mod Lexemes
+pub mod Completeness
+pub mod Scans
+pub mod ScanSteps

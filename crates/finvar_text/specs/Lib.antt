@@ -1,0 +1,6 @@
+pub mod Syntax
+pub mod Trees
+pub mod Grammar
+pub mod Scanning
+pub mod Parsers
+pub mod Scanners

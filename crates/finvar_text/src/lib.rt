@@ -1,0 +1,13 @@
+//! Scripts: which bytes are one, the tree of each, and the first place where others fail.
+#![tactic(auto)]
+
+mod laws;
+mod scan;
+mod scan_symbols;
+#[cfg(test)]
+mod scan_tests;
+mod scan_tokens;
+mod scan_words;
+mod syntax;
+
+pub use laws::trees_of_texts;
