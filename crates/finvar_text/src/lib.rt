@@ -7,5 +7,6 @@ mod scan_symbols;
 mod scan_tokens;
 mod scan_words;
 mod syntax;
+mod values;
 
 pub use laws::trees_of_texts;
