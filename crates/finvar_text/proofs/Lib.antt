@@ -8,3 +8,4 @@ pub mod Lexemes
 pub mod Completeness
 pub mod Scans
 pub mod ScanSteps
+pub mod NumberSteps

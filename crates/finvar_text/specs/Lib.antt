@@ -1,5 +1,6 @@
 pub mod Syntax
 pub mod Trees
+pub mod Conditions
 pub mod Grammar
 pub mod Scanning
 pub mod Parsers

@@ -9,5 +9,6 @@ mod scan_tests;
 mod scan_tokens;
 mod scan_words;
 mod syntax;
+mod values;
 
 pub use laws::trees_of_texts;
