@@ -5,3 +5,4 @@ pub mod Grammar
 pub mod Scanning
 pub mod Parsers
 pub mod Scanners
+pub mod Scripts

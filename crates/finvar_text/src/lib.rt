@@ -1,14 +1,20 @@
 //! Scripts: which bytes are one, the tree of each, and the first place where others fail.
 #![tactic(auto)]
 
+mod fault;
 mod laws;
+mod read;
 mod scan;
 mod scan_symbols;
 #[cfg(test)]
 mod scan_tests;
 mod scan_tokens;
 mod scan_words;
+mod script;
 mod syntax;
 mod values;
 
+pub use fault::ScriptFault;
 pub use laws::trees_of_texts;
+pub use read::read_script;
+pub use script::Script;

@@ -1,17 +1,11 @@
 -- The lines of a basis, and the names of its variables.
-use Rattle.std.proofs.Common.{◌≡◌, ℕ, suc, ◌+◌, ◌-◌, ◌*◌, Ok, Err, Result, ◌<◌, ◌≤◌, Bool, true, false, List, [], ◌∷◌, ◌++◌, length, map, take, get_or, slice_index, replicate, zero, All, IsTrue, sym, ap, ap₂, ◌∙◌, refl, subst, append-nil, arith}
-use Rattle.std.specs.Prelude.{◌||◌, ◌&&◌, not}
-use Rattle.std.specs.Bool.{Decides}
+use Rattle.std.proofs.Common.{◌≡◌, ℕ, suc, ◌+◌, ◌-◌, ◌*◌, Ok, Err, Result, ◌<◌, ◌≤◌, List, [], ◌∷◌, ◌++◌, length, map, take, get_or, slice_index, replicate, zero, All, None, sym, ap, ap₂, ◌∙◌, refl, subst, append-nil, arith}
 use Rattle.std.specs.Result.{IsErrAnd}
-use Rattle.std.specs.Str.{bytes_eq}
 use Rattle.std.proofs.lemmas.Bool.{lt-ltb}
-use Rattle.std.proofs.lemmas.Bool.Decides.{nat_tests}
-use Rattle.std.proofs.lemmas.List.Elements.{All-map}
+use Rattle.std.proofs.lemmas.List.Elements.{All-map, All-weaker}
 use Rattle.std.proofs.lemmas.List.{append_assoc, take_more, map-append, length-replicate, length-append, get_or-append-add}
 use Rattle.invring_app.specs.Outputs.{IsLines}
 use Rattle.std.proofs.Math.Seq.{take-length}
-use Rattle.std.proofs.lemmas.Slice.Eq.{bytes_eq-Decides}
-use Rattle.alg_core.specs.Names.{is_letter, is_name, is_reserved}
 use Rattle.alg_core.specs.Spaces.{SpaceOver, over, Fits}
 use Rattle.alg_core.specs.Vectors.{Entry, vec}
 use Rattle.poly_text.specs.declared.names.Names.{Names}
@@ -20,46 +14,22 @@ use Rattle.alg_core.specs.Fields.{Has}
 use Rattle.lin_algebra.specs.declared.matrix.Matrix.{Matrix}
 use Rattle.matrix_group.specs.Actions.{IsSquare}
 use Rattle.invariant_space.specs.declared.fault.SpaceFault.{SpaceFault}
-use Rattle.prime_field.specs.PrimeFields.{gfp}
+use Rattle.prime_field.specs.PrimeFields.{gfp, IsPrimeField}
 use Rattle.prime_field.specs.declared.gfp.PrimeField.{PrimeField}
 use Rattle.alg_core.specs.Binomials.{monomials_of_degree}
 use Rattle.alg_core.specs.DpOrder.{dp_order}
 use Rattle.alg_core.specs.declared.dp.Dp.{Dp}
 use Rattle.alg_core.specs.declared.space.Space.{Space}
 use Rattle.invariant_space.specs.InvariantSpaces.{IsEchelonBasis}
-use Rattle.invring_app.specs.declared.script.Script.{Script}
-use Rattle.invring_app.specs.Bases.{lines, thin_script, IsMatrixOf, AreNamesOf, IsBasisText}
-use Rattle.invring_app.specs.ThinScripts.{IsSmallLetter, ThinScript, IsThinScript}
+use Rattle.finvar_text.specs.Scripts.{IsScriptOf}
+use Rattle.finvar_text.specs.Syntax.{Script as Tree}
+use Rattle.finvar_text.specs.declared.script.Script.{Script}
+use Rattle.invring_app.specs.Bases.{lines, IsGenerator, IsBasisText}
 
 -- one line more
 pub lines_more : (S : SpaceOver ℕ) (names : Names) (es : List (List (Entry ℕ))) (e : List (Entry ℕ)) → lines S names (es ++ e ∷ []) ≡ lines S names es ++ (polynomial_text S names e ++ 10 ∷ [])
 lines_more S names [] e = append-nil (polynomial_text S names e ++ 10 ∷ [])
 lines_more S names (f ∷ es) e = ap (λ (l : List ℕ). (polynomial_text S names f ++ 10 ∷ []) ++ l) (lines_more S names es e) ∙ sym (append_assoc (polynomial_text S names f ++ 10 ∷ []) (lines S names es) (polynomial_text S names e ++ 10 ∷ []))
-
--- a word of another length is another word
-other_length : (xs ys : List ℕ) → ¬ (length xs ≡ length ys) → bytes_eq xs ys ≡ false
-other_length xs ys n = go (bytes_eq xs ys) (bytes_eq-Decides xs ys)
-  where
-    go : (t : Bool) → Decides t (xs ≡ ys) → t ≡ false
-    go false d = refl
-    go true d = absurd (n (ap length (d.0 refl)))
-
--- a small letter is a name
-pub letter_name : (b : ℕ) → IsSmallLetter b → IsTrue (is_name (b ∷ []))
-letter_name b h =
-    let low = h.0 in
-    let high = h.1 in
-    let letter : is_letter b ≡ true = grind (arith, nat_tests) in
-    ap₂ (λ (t u : Bool). t && (true && not u)) letter free
-  where
-    free : is_reserved (b ∷ []) ≡ false
-    free =
-        ap₂ (λ (t u : Bool). t || u) (other_length (b ∷ []) (76 ∷ 73 ∷ 66 ∷ []) (λ e. omega (arith, e)))
-        (ap₂ (λ (t u : Bool). t || u) (other_length (b ∷ []) (114 ∷ 105 ∷ 110 ∷ 103 ∷ []) (λ e. omega (arith, e)))
-        (ap₂ (λ (t u : Bool). t || u) (other_length (b ∷ []) (109 ∷ 97 ∷ 116 ∷ 114 ∷ 105 ∷ 120 ∷ []) (λ e. omega (arith, e)))
-        (ap₂ (λ (t u : Bool). t || u) (other_length (b ∷ []) (112 ∷ 114 ∷ 105 ∷ 110 ∷ 116 ∷ []) (λ e. omega (arith, e)))
-        (ap₂ (λ (t u : Bool). t || u) (other_length (b ∷ []) (105 ∷ 110 ∷ 118 ∷ 97 ∷ 114 ∷ 105 ∷ 97 ∷ 110 ∷ 116 ∷ 95 ∷ 114 ∷ 105 ∷ 110 ∷ 103 ∷ []) (λ e. omega (arith, e)))
-        (other_length (b ∷ []) (100 ∷ 112 ∷ []) (λ e. omega (arith, e)))))))
 
 -- a loop over the members adds one line a turn
 module _ {X : Type 0} (view : X → List (Entry ℕ)) (S : SpaceOver ℕ) (names : Names) (basis : List X) where
@@ -73,19 +43,22 @@ module _ {X : Type 0} (view : X → List (Entry ℕ)) (S : SpaceOver ℕ) (names
   pub lines_all : (i : ℕ) → i ≤ length basis → length basis ≤ i → lines S names (map view (take i basis)) ≡ lines S names (map view basis)
   lines_all i l m = ap (λ (t : List X). lines S names (map view t)) (ap (λ (n : ℕ). take n basis) (omega arith) ∙ take-length basis)
 
--- the matrix of a script is square and over its field
-pub script_matrix : (s : ThinScript) (f : PrimeField) → IsThinScript s → f.p ≡ s.characteristic → (n : ℕ) → n ≡ length s.names → (m : Matrix ℕ) → IsMatrixOf s m → IsSquare (gfp f.p f.listed) n m
-script_matrix s f thin field n size m is = record {
-  matrix = record {
-    whole = ap length is.cells ∙ thin.square ∙ ap₂ ◌*◌ (sym is.rows) (sym is.cols);
-    has = λ k d l. has (get_or m.cells.items k d) (subst (λ (cells : List ℕ). get_or cells k d < f.p) (sym is.cells) (subst (λ (p : ℕ). get_or s.cells k d < p) (sym field) (thin.below k d (subst (λ (cells : List ℕ). k < length cells) is.cells l))));
-  };
-  rows = is.rows ∙ sym size;
-  cols = is.cols ∙ sym size;
-}
+-- the matrices of a sound script are square and over its field
+pub square_matrices : (f : PrimeField) (p n k : ℕ) (ms : List (Matrix ℕ)) → f.p ≡ p → n ≡ k → All (IsGenerator p k) ms → All (IsSquare (gfp f.p f.listed) n) ms
+square_matrices f p n k ms field size gens = All-weaker (IsGenerator p k) (IsSquare (gfp f.p f.listed) n) one ms gens
   where
     has : (c : ℕ) → c < f.p → Has (gfp f.p f.listed) c
     has c l = lt-ltb c f.p l
+
+    one : (m : Matrix ℕ) → IsGenerator p k m → IsSquare (gfp f.p f.listed) n m
+    one m g = record {
+      matrix = record {
+        whole = g.square ∙ ap₂ ◌*◌ (sym g.rows) (sym g.cols);
+        has = λ i d l. has (get_or m.cells.items i d) (subst (λ (q : ℕ). get_or m.cells.items i d < q) (sym field) (g.below i d l));
+      };
+      rows = g.rows ∙ sym size;
+      cols = g.cols ∙ sym size;
+    }
 
 -- an error that is handed on
 pub error_same : {X : Type 0} (r : Result X SpaceFault) (e y : SpaceFault) → IsErrAnd r (λ x. x ≡ e) → r ≡ Err y → e ≡ y
@@ -104,38 +77,35 @@ bound_is weights n m d degree count limit ones same b = (b.0, b.1 ∙ ap (λ (l 
 pub within_is : (weights : List ℕ) (n m d limit : ℕ) → weights ≡ replicate n 1 → n ≡ m → monomials_of_degree (length weights) d ≤ limit → monomials_of_degree m d ≤ limit
 within_is weights n m d limit ones same b = subst (λ (l : ℕ). monomials_of_degree l d ≤ limit) (weights_many weights n m ones same) b
 
-module _ {X : Type 0} (view : X → List (Entry ℕ)) (script : Script) (space : Space PrimeField Dp) (names : Names) (basis : List X) (n d : ℕ) (text : List ℕ) where
+module _ {X : Type 0} (view : X → List (Entry ℕ)) (tree : Tree) (script : Script) (space : Space PrimeField Dp) (names : Names) (basis : List X) (n d : ℕ) (text : List ℕ) where
   abbrev S : SpaceOver ℕ
   S = over (λ (f : PrimeField). gfp f.p f.listed) (λ (o : Dp). dp_order o.weights.items) space
 
-  abbrev m : Matrix ℕ
-  m = record { rows = n; cols = n; cells = script.cells }
-
   -- the lines are those of the basis of the script
-  pub basis_is : n ≡ length script.names.items → space.field ≡ script.field → space.order.weights.items ≡ replicate n 1 → space.grading.weights.items ≡ replicate n 1 → space.grading.shifts.items ≡ 0 ∷ []
-      → AreNamesOf (thin_script script) names → All (λ p. Fits (over (λ (f : PrimeField). gfp f.p f.listed) (λ (o : Dp). dp_order o.weights.items) space) (view p)) basis
+  pub basis_is : IsScriptOf tree script → n ≡ length script.names.items → IsPrimeField script.characteristic (gfp space.field.p space.field.listed) → space.order.weights.items ≡ replicate n 1 → space.grading.weights.items ≡ replicate n 1 → space.grading.shifts.items ≡ 0 ∷ []
+      → names.vars.items ≡ script.names.items → names.primaries ≡ None → names.irreducibles ≡ None → All (λ p. Fits (over (λ (f : PrimeField). gfp f.p f.listed) (λ (o : Dp). dp_order o.weights.items) space) (view p)) basis
       → All (λ p. All (λ e. e.0.0 ≡ 0) (view p)) basis
-      → IsEchelonBasis (over (λ (f : PrimeField). gfp f.p f.listed) (λ (o : Dp). dp_order o.weights.items) space) (record { rows = n; cols = n; cells = script.cells } ∷ []) d (map (λ p. vec (gfp space.field.p space.field.listed) (view p)) basis)
+      → IsEchelonBasis (over (λ (f : PrimeField). gfp f.p f.listed) (λ (o : Dp). dp_order o.weights.items) space) script.gens.items d (map (λ p. vec (gfp space.field.p space.field.listed) (view p)) basis)
       → text ≡ lines (over (λ (f : PrimeField). gfp f.p f.listed) (λ (o : Dp). dp_order o.weights.items) space) names (map view basis)
-      → IsBasisText (thin_script script) d text
-  basis_is many field order weights shifts are fit positions echelon is =
-      let ones = ap (λ (l : ℕ). replicate l (suc zero)) many in
+      → IsBasisText tree d text
+  basis_is of many field order weights shifts vars primaries irreducibles fit positions echelon is =
+      let ones = ap (λ (l : ℕ). replicate l (suc zero)) (many ∙ ap length of.names) in
       record {
         space = S;
-        matrix = m;
+        matrices = script.gens.items;
         names = names;
         basis = map view basis;
         is_space = record {
-          field = (script.field.listed, ap (λ (f : PrimeField). gfp f.p f.listed) field);
+          field = subst (λ (p : ℕ). IsPrimeField p (gfp space.field.p space.field.listed)) of.characteristic field;
           order = ap dp_order (order ∙ ones);
           weights = weights ∙ ones;
           shifts = shifts;
         };
-        is_matrix = record { rows = many; cols = many; cells = refl };
-        are_names = are;
+        are_matrices = of.gens;
+        are_names = record { vars = vars ∙ of.names; primaries = primaries; irreducibles = irreducibles };
         fit = All-map (Fits S) view basis fit;
         polynomials = All-map (All (λ e. e.0.0 ≡ 0)) view basis positions;
-        echelon = subst (IsEchelonBasis S (m ∷ []) d) (sym (map_twice basis)) echelon;
+        echelon = subst (IsEchelonBasis S script.gens.items d) (sym (map_twice basis)) echelon;
         is_text = is;
       }
     where
@@ -167,5 +137,5 @@ lines_whole S names (e ∷ es) some = go (lines S names es) (lines_whole S names
     go [] h = subst (λ (l : List ℕ). slice_index l (length l - 1) ≡ 10) (sym (append-nil line)) line_last
     go (x ∷ rest) h = last_of_two line (x ∷ rest) (omega arith) (h (omega arith))
 
-pub basis_whole : (s : ThinScript) (d : ℕ) (text : List ℕ) → IsBasisText s d text → IsLines text
-basis_whole s d text b = subst IsLines (sym b.is_text) (lines_whole b.space b.names b.basis)
+pub lines_are : (S : SpaceOver ℕ) (names : Names) (es : List (List (Entry ℕ))) (text : List ℕ) → text ≡ lines S names es → IsLines text
+lines_are S names es text is = subst IsLines (sym is) (lines_whole S names es)

@@ -14,8 +14,7 @@ use Rattle.invring_app.specs.declared.words.Command.{Command}
 use Rattle.invring_app.specs.declared.words.Command.TheVariants.{Basis}
 use Rattle.invring_app.specs.declared.words.Request.{Request}
 use Rattle.invring_app.specs.Commands.{Part, IsInRange, AreParts, place, values, IsChosen, IsRequest, AreInRange}
-use Rattle.invring_app.specs.Reading.{◌>>=◌}
-use Rattle.invring_app.specs.WordReading.{given_at, nothing_given, limits_of, arguments_of, request_of}
+use Rattle.invring_app.specs.WordReading.{◌>>=◌, given_at, nothing_given, limits_of, arguments_of, request_of}
 use Rattle.invring_app.proofs.GivenLaws.{place-injective, Cell, Fits, adds-some, adds-cells}
 use Rattle.invring_app.proofs.WordLaws.{read_from, AreParts-read, Written, read-written}
 

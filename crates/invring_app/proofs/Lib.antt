@@ -1,12 +1,9 @@
 pub mod BasisLaws
 pub mod CommandLaws
 pub mod DigitLaws
-pub mod Fronts
 pub mod GivenLaws
 pub mod LineLaws
-pub mod NameLaws
 pub mod NumeralLaws
-pub mod PartLaws
 pub mod RefusalLaws
 pub mod RunLaws
 pub mod ScriptLaws

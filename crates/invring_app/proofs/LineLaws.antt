@@ -6,7 +6,11 @@ use Rattle.std.proofs.Math.Seq.{take-append-add}
 use Rattle.std.proofs.lemmas.List.{take-append-drop, take-append-le, take_all, take_more, drop_more, map-append}
 use Rattle.inv_outside.specs.Outside.{Took}
 use Rattle.inv_outside.proofs.Told.{Took-append}
-use Rattle.invring_app.specs.ErrorLines.{line_of}
+use Rattle.alg_core.specs.declared.input_fault.InputFault.{InputFault}
+use Rattle.alg_core.specs.declared.place.Place.{Place}
+use Rattle.alg_core.specs.declared.place.Place.TheVariants.{Byte, Line}
+use Rattle.invring_app.specs.ErrorLines.{line_of, input_pieces, error_line}
+use Rattle.invring_app.specs.declared.status.Status.TheVariants as ends
 
 concat-push : (ps : List (List ℕ)) (p : List ℕ) → concat (ps ++ p ∷ []) ≡ concat ps ++ p
 concat-push [] p = append-nil p
@@ -99,3 +103,23 @@ line-front (Err _) a c line all front = front
 pub line-whole : {T E : Type 0} (r : Result T E) (a c : Option (List ℕ)) (line : List ℕ) (Q : Type 0) → OnOk r (Took a line c) → (IsErr r → Q) → ¬ Q → Took a line c
 line-whole (Ok _) a c line Q all cause none = all
 line-whole (Err _) a c line Q all cause none = absurd (none (cause refl))
+
+-- the line of a fault by another name
+
+pub fault-ok : {T E : Type 0} (r : Result T E) (a c : Option (List ℕ)) (fault told : InputFault) → fault ≡ told → OnOk r (Took a (line_of (input_pieces told)) c) → OnOk r (Took a (line_of (input_pieces fault)) c)
+fault-ok r a c fault told same took = subst (λ (f : InputFault). OnOk r (Took a (line_of (input_pieces f)) c)) (sym same) took
+
+pub fault-err : {T E : Type 0} (r : Result T E) (a c : Option (List ℕ)) (fault told : InputFault) → fault ≡ told
+    → OnErr r ((k : ℕ) × (k ≤ length (line_of (input_pieces told))) × Took a (take k (line_of (input_pieces told))) c) → OnErr r ((k : ℕ) × (k ≤ length (line_of (input_pieces fault))) × Took a (take k (line_of (input_pieces fault))) c)
+fault-err r a c fault told same front = subst (λ (f : InputFault). OnErr r ((k : ℕ) × (k ≤ length (line_of (input_pieces f))) × Took a (take k (line_of (input_pieces f))) c)) (sym same) front
+
+-- the line of a place
+
+place-line : (place told : Place) (text : List ℕ) (n m : ℕ) → place ≡ told → n ≡ m → line_of (text ∷ decimal m ∷ []) ≡ error_line (ends.Syntax told) → line_of (text ∷ decimal n ∷ []) ≡ error_line (ends.Syntax place)
+place-line place told text n m same number is = ap (λ (k : ℕ). line_of (text ∷ decimal k ∷ [])) number ∙ is ∙ ap (λ (p : Place). error_line (ends.Syntax p)) (sym same)
+
+pub byte-line : (place : Place) (n m : ℕ) → place ≡ Byte m → n ≡ m → line_of (codes "syntax place " ∷ decimal n ∷ []) ≡ error_line (ends.Syntax place)
+byte-line place n m same number = place-line place (Byte m) (codes "syntax place ") n m same number refl
+
+pub row-line : (place : Place) (n m : ℕ) → place ≡ Line m → n ≡ m → line_of (codes "syntax line " ∷ decimal n ∷ []) ≡ error_line (ends.Syntax place)
+row-line place n m same number = place-line place (Line m) (codes "syntax line ") n m same number refl

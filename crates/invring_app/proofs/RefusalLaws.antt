@@ -1,22 +1,24 @@
--- What a reader's error says of the refusal that it becomes.
-use Rattle.std.proofs.Common.{◌≡◌, refl}
+-- What a refused space says of the refusal that it becomes.
+use Rattle.std.proofs.Common.{◌≡◌, ℕ, refl, subst}
 use Rattle.std.specs.Prelude.{Result, Ok, Err, IsErrAnd}
-use Rattle.alg_core.specs.declared.place.Place.{Place}
-use Rattle.alg_core.specs.declared.place.Place.TheVariants.{Byte}
+use Rattle.invariant_space.specs.declared.fault.SpaceFault.{SpaceFault}
+use Rattle.invariant_space.specs.declared.fault.SpaceFault.TheVariants as spaces
 use Rattle.invring_app.specs.declared.answer.Refusal.{Refusal}
 use Rattle.invring_app.specs.declared.answer.Refusal.TheVariants as refusals
-use Rattle.invring_app.specs.declared.fault.ReadError.{ReadError}
-use Rattle.invring_app.specs.declared.fault.ReadError.TheVariants as errors
-use Rattle.invring_app.specs.Refusals.{refusal_of}
+use Rattle.invring_app.specs.declared.status.BoundFault.{BoundFault}
+use Rattle.invring_app.specs.declared.status.BoundFault.TheVariants.{TermBound}
+use Rattle.invring_app.specs.Refusals.{refusal_of_space}
 
--- a syntax fault is at the first byte, and what was read is malformed
-syntax-is : (e : ReadError) (place : Place) → refusal_of e ≡ refusals.Syntax place → (place ≡ Byte 0) × (e ≡ errors.Malformed)
-syntax-is errors.Memory place is = absurd cc
-syntax-is errors.Malformed place is = (cc, refl)
+bound-is : (e : SpaceFault) (fault : BoundFault) (Q : BoundFault → Type 0) → refusal_of_space e ≡ refusals.Bound fault → ((d count : ℕ) → e ≡ spaces.TermBound d count → Q (TermBound d count)) → Q fault
+bound-is (spaces.TermBound d count) fault Q is each =
+    let same : TermBound d count ≡ fault = cc in
+    subst Q same (each d count refl)
+bound-is spaces.Memory fault Q is each = absurd cc
 
-pub syntax-from_read : {X : Type 0} (e : ReadError) (r : Result X Refusal) (Q : Type 0) → IsErrAnd r (λ x. x ≡ refusal_of e) → (e ≡ errors.Malformed → Q) → (place : Place) → r ≡ Err (refusals.Syntax place) → (place ≡ Byte 0) × Q
-syntax-from_read e (Ok x) Q is only place fault = absurd is
-syntax-from_read e (Err x) Q is only place fault =
-    let same : refusal_of e ≡ refusals.Syntax place = cc in
-    let parts = syntax-is e place same in
-    (parts.0, only parts.1)
+-- a bound that is told was met in the space
+pub bound-from_space : {X : Type 0} (e : SpaceFault) (r : Result X Refusal) (fault : BoundFault) (Q : BoundFault → Type 0) → IsErrAnd r (λ x. x ≡ refusal_of_space e) → r ≡ Err (refusals.Bound fault)
+    → ((d count : ℕ) → e ≡ spaces.TermBound d count → Q (TermBound d count)) → Q fault
+bound-from_space e (Ok x) fault Q told is each = absurd told
+bound-from_space e (Err x) fault Q told is each =
+    let same : refusal_of_space e ≡ refusals.Bound fault = cc in
+    bound-is e fault Q same each

@@ -1,240 +1,146 @@
--- What is read is a text of a thin script, and each text of a thin script is read.
-use Rattle.std.proofs.Common.{◌≡◌, ℕ, ◌-◌, ◌*◌, ◌<◌, ◌≤◌, ◌&&◌, ◌||◌, true, eqb, List, [], ◌∷◌, ◌++◌, length, map, All, Some, None, refl, sym, ap, subst, ◌∙◌, append_assoc, arith, inl, inr, if◌then◌else◌}
-use Rattle.std.specs.Prelude.{Result, Ok, Err, IfOk, codes, decimal, nat_le}
-use Rattle.std.specs.List.{join_with_byte}
-use Rattle.std.proofs.lemmas.Bool.{and_from, and_parts, or_cases, eqb-true, leb-true, le-leb}
-use Rattle.std.proofs.lemmas.Bool.Decides.{nat_tests}
-use Rattle.std.proofs.lemmas.List.Elements.{All-weaker}
-use Rattle.std.proofs.lemmas.Option.{cond_some}
+-- A script whose values have no fault is sound.
+use Rattle.std.proofs.Common.{◌≡◌, ℕ, ◌*◌, ◌%◌, ◌<◌, ◌≤◌, Bool, true, false, List, [], ◌∷◌, length, map, All, Some, None, refl, sym, ap, subst, ◌∙◌, arith, if◌then◌else◌}
+use Rattle.std.specs.Prelude.{Option, nat_le}
+use Rattle.std.specs.Option.{option_map, option_or}
+use Rattle.std.specs.Str.{bytes_eq}
+use Rattle.std.proofs.lemmas.Bool.{and_parts, eqb-true, leb-true}
+use Rattle.std.proofs.lemmas.List.{length-map}
+use Rattle.std.proofs.lemmas.List.Elements.{All-nil, All-cons, All-head, All-tail}
+use Rattle.std.proofs.lemmas.Nat.{mod_below}
+use Rattle.alg_core.specs.declared.input_fault.InputFault.{InputFault}
+use Rattle.alg_core.specs.declared.input_fault.InputFault.TheVariants as faults
+use Rattle.lin_algebra.specs.declared.matrix.Matrix.{Matrix as Cells}
 use Rattle.prime_field.specs.ListedPrimes.{is_listed}
 use Rattle.prime_field.specs.PrimeFields.{listed_positive}
-use Rattle.invring_app.specs.declared.fault.ReadError.{ReadError}
-use Rattle.invring_app.specs.declared.fault.ReadError.TheVariants as errors
-use Rattle.invring_app.specs.Reading.{Gives, after, number_at, numeral_at, names_at, numbers_at, are_variables, ring_at, matrix_at, blank_at, end_at, script_at}
-use Rattle.invring_app.specs.ThinScripts.{ThinScript, IsThinScript, AreVariables, ring_text, matrix_text, IsBlank, IsEnding, ThinScriptText}
-use Rattle.invring_app.proofs.PartLaws.{bind_some, some_is, after-takes, after-again, number_at-takes, number_at-again, numeral_at-takes, numeral_at-again, Numbers, numbers_at-takes, numbers_at-again}
-use Rattle.invring_app.proofs.NameLaws.{name_list, names_at-takes, names_at-again, are_variables-found, are_variables-only}
+use Rattle.prime_field.specs.Residues.{neg_mod}
+use Rattle.finvar_text.specs.Conditions.{value, residue, cells, has_size, first_misfit, named, put_first, select, the_call, generators_by, generators, matrices, value_conditions, number_fault, field_fault, variables_fault, twice_fault, unknown_fault, size_fault, some_matrix, first_of, FaultFrom, HasFault}
+use Rattle.finvar_text.specs.Scripts.{IsScriptOf}
+use Rattle.finvar_text.specs.Syntax.{Call, Entry, Matrix, Script as Tree, IsSome, IsScript, IsText}
+use Rattle.finvar_text.specs.declared.script.Script.{Script}
+use Rattle.invring_app.specs.Bases.{IsGenerator, IsSound}
 
--- the parts of a ring, one after the other
-pub ring_at-steps : (bytes a r b : List ℕ) (names s c : List ℕ) (p : ℕ) → after (codes "ring R=") bytes ≡ Some a → number_at 32003 a ≡ Some (p, r) → after (codes ",(") r ≡ Some b
-    → names_at b ≡ Some (names, s) → after (codes "),dp;") s ≡ Some c → is_listed p ≡ true → are_variables names ≡ true → ring_at bytes ≡ Some (p, names, c)
-unfolding ring_at
-ring_at-steps bytes a r b names s c p e1 e2 e3 e4 e5 listed variables = rw (e1, e2, e3, e4, e5) (ap (λ t. if t then Some (p, names, c) else None) (and_from _ _ listed variables))
+-- where no fault is told, no condition on the values fails
+no_first : (o : Option InputFault) (t : Tree) → FaultFrom o t None → o ≡ None
+no_first None t h = refl
+no_first (Some f) t h = absurd cc
 
--- the parts of a matrix, one after the other
-matrix_at-steps : (p n : ℕ) (bytes a b c d e : List ℕ) (cells f g : List ℕ) → after (codes "matrix A[") bytes ≡ Some a → numeral_at n a ≡ Some b → after (codes "][") b ≡ Some c
-    → numeral_at n c ≡ Some d → after (codes "]=") d ≡ Some e → numbers_at (p - 1) (n * n) e ≡ Some (cells, f) → after (codes ";") f ≡ Some g → matrix_at p n bytes ≡ Some (cells, g)
-unfolding matrix_at
-matrix_at-steps p n bytes a b c d e cells f g e1 e2 e3 e4 e5 e6 e7 = rw (e1, e2, e3, e4, e5, e6, e7) refl
+or_none : (f o : Option InputFault) → option_or f o ≡ None → (f ≡ None) × (o ≡ None)
+or_none None o e = (refl, e)
+or_none (Some f) o e = absurd cc
 
--- the parts of a script, one after the other
-script_at-steps : (bytes a b c : List ℕ) (p : ℕ) (names cells : List ℕ) → ring_at bytes ≡ Some (p, names, a) → blank_at a ≡ Some b → matrix_at p (length names) b ≡ Some (cells, c)
-    → end_at c ≡ Some tt → length bytes ≤ 4096 → script_at bytes ≡ Some (record { characteristic = p; names = names; cells = cells })
-unfolding script_at
-script_at-steps bytes a b c p names cells e1 e2 e3 e4 short =
-    rw (e1, e2, e3, e4) (ap (λ t. if t then Some (record { characteristic = p; names = names; cells = cells }) else None) (le-leb _ _ short))
+if_none : (b : Bool) (f : InputFault) → (if b then None else Some f) ≡ None → b ≡ true
+if_none true f e = refl
+if_none false f e = absurd cc
 
--- ---- each text is read
+map_none : (f : List ℕ → InputFault) (o : Option (List ℕ)) → option_map f o ≡ None → o ≡ None
+map_none f None e = refl
+map_none f (Some w) e = absurd cc
 
-listed_within : (p : ℕ) → is_listed p ≡ true → p ≤ 32003
-listed_within p listed = grind (arith, nat_tests)
+abbrev Fit : ℕ → Matrix → Type 0
+Fit n m = has_size n m ≡ true
 
-pub ring_at-again : (s : ThinScript) (rest : List ℕ) → IsThinScript s → ring_at (ring_text s ++ rest) ≡ Some (s.characteristic, s.names, rest)
-unfolding ring_text
-ring_at-again s rest is =
-    let p = s.characteristic in
-    let r5 : List ℕ = codes "),dp;" ++ rest in
-    let r4 : List ℕ = name_list s.names ++ r5 in
-    let r3 : List ℕ = codes ",(" ++ r4 in
-    let r2 : List ℕ = decimal p ++ r3 in
-    let tail : List ℕ = name_list s.names ++ codes "),dp;" in
-    let regrouped : ring_text s ++ rest ≡ codes "ring R=" ++ r2 =
-    ap (λ t. codes "ring R=" ++ t) (append_assoc (decimal p) (codes ",(" ++ tail) rest ∙ ap (λ t. decimal p ++ (codes ",(" ++ t)) (append_assoc (name_list s.names) (codes "),dp;") rest)) in
-    ring_at-steps (ring_text s ++ rest) r2 r3 r4 s.names r5 rest p (ap (after (codes "ring R=")) regrouped ∙ after-again (codes "ring R=") r2)
-    (number_at-again 32003 p r3 (listed_within p is.listed) (omega arith) refl) (after-again (codes ",(") r4) (names_at-again s.names 41 (codes ",dp;" ++ rest) is.variables.some (λ e. omega arith))
-    (after-again (codes "),dp;") rest) is.listed (are_variables-only s.names is.variables)
+no_misfit : (n : ℕ) (ms : List Matrix) → first_misfit n ms ≡ None → All (Fit n) ms
+no_misfit n [] e = All-nil (Fit n)
+no_misfit n (m ∷ ms) e = go (has_size n m) refl e (no_misfit n ms)
+  where
+    go : (b : Bool) → has_size n m ≡ b → (if b then first_misfit n ms else Some m.name) ≡ None → (first_misfit n ms ≡ None → All (Fit n) ms) → All (Fit n) (m ∷ ms)
+    go true is e rest = All-cons (Fit n) m ms is (rest e)
+    go false is e rest = absurd cc
 
-pub matrix_at-again : (s : ThinScript) (rest : List ℕ) → IsThinScript s → matrix_at s.characteristic (length s.names) (matrix_text s ++ rest) ≡ Some (s.cells, rest)
-unfolding matrix_text
-matrix_at-again s rest is =
-    let n = length s.names in
-    let cells : List ℕ = join_with_byte 44 (map decimal s.cells) in
-    let r7 : List ℕ = codes ";" ++ rest in
-    let r6 : List ℕ = cells ++ r7 in
-    let r5 : List ℕ = codes "]=" ++ r6 in
-    let r4 : List ℕ = decimal n ++ r5 in
-    let r3 : List ℕ = codes "][" ++ r4 in
-    let r2 : List ℕ = decimal n ++ r3 in
-    let t4 : List ℕ = codes "]=" ++ (cells ++ codes ";") in
-    let last : t4 ++ rest ≡ r5 = ap (λ t. codes "]=" ++ t) (append_assoc cells (codes ";") rest) in
-    let size : decimal n ++ t4 ++ rest ≡ r4 = append_assoc (decimal n) t4 rest ∙ ap (λ t. decimal n ++ t) last in
-    let regrouped : matrix_text s ++ rest ≡ codes "matrix A[" ++ r2 =
-    ap (λ t. codes "matrix A[" ++ t) (append_assoc (decimal n) (codes "][" ++ (decimal n ++ t4)) rest ∙ ap (λ t. decimal n ++ (codes "][" ++ t)) size) in
-    let few : n ≤ 8 = is.variables.few in
-    let many : 1 ≤ n * n = grind (arith, is.variables.some) in
-    let positive : 0 < s.characteristic = listed_positive s.characteristic is.listed in
-    let small = listed_within s.characteristic is.listed in
-    let numbers : Numbers (s.characteristic - 1) (n * n) s.cells = record { count = is.square; within = All-weaker (λ c. c < s.characteristic) (λ c. c ≤ s.characteristic - 1) (λ x h. omega arith) s.cells is.below } in
-    matrix_at-steps s.characteristic n (matrix_text s ++ rest) r2 r3 r4 r5 r6 s.cells r7 rest (ap (after (codes "matrix A[")) regrouped ∙ after-again (codes "matrix A[") r2)
-    (numeral_at-again n r3 (omega arith) refl) (after-again (codes "][") r4) (numeral_at-again n r5 (omega arith) refl) (after-again (codes "]=") r6)
-    (numbers_at-again (s.characteristic - 1) (n * n) s.cells r7 many (omega arith) numbers refl) (after-again (codes ";") rest)
+-- what holds of each matrix holds of each generator
+named_all : (P : Matrix → Type 0) (ms : List Matrix) (w : List ℕ) (rest : List Matrix) → All P ms → All P rest → All P (put_first (named ms w) rest)
+named_all P [] w rest h r = r
+named_all P (m ∷ ms) w rest h r = go (bytes_eq m.name w) (named_all P ms w rest (All-tail P m ms h) r)
+  where
+    go : (b : Bool) → All P (put_first (named ms w) rest) → All P (put_first (if b then Some m else named ms w) rest)
+    go true more = All-cons P m rest (All-head P m ms h) r
+    go false more = more
 
-blank_at-again : (b : ℕ) (rest : List ℕ) → IsBlank b → blank_at (b ∷ rest) ≡ Some rest
-unfolding blank_at
-blank_at-again b rest (inl e) = rw e refl
-blank_at-again b rest (inr e) = rw e refl
+select_all : (P : Matrix → Type 0) (ms : List Matrix) (ws : List (List ℕ)) → All P ms → All P (select ms ws)
+select_all P ms [] h = All-nil P
+select_all P ms (w ∷ ws) h = named_all P ms w (select ms ws) h (select_all P ms ws h)
 
-end_at-again : (bytes : List ℕ) → IsEnding bytes → end_at bytes ≡ Some tt
-unfolding end_at
-end_at-again bytes (inl e) = rw e refl
-end_at-again bytes (inr e) = rw e refl
+call_all : (P : Matrix → Type 0) (ms : List Matrix) (c : Option Call) → All P ms → All P (generators_by c ms)
+call_all P ms None h = h
+call_all P ms (Some c) h = select_all P ms c.arguments h
 
-pub script_at-again : (bytes : List ℕ) (s : ThinScript) → ThinScriptText bytes s → script_at bytes ≡ Some s
-script_at-again bytes s is =
-    let after_blank : List ℕ = matrix_text s ++ is.ending in
-    script_at-steps bytes (is.blank ∷ after_blank) after_blank is.ending s.characteristic s.names s.cells (ap ring_at is.text ∙ ring_at-again s (is.blank ∷ after_blank) is.script)
-    (blank_at-again is.blank after_blank is.is_blank) (matrix_at-again s is.ending is.script) (end_at-again is.ending is.is_ending) is.short
+generators_all : (P : Matrix → Type 0) (t : Tree) → All P (matrices t) → All P (generators t)
+unfolding generators
+generators_all P t h = call_all P (matrices t) (the_call t.items) h
 
--- ---- what is read is a text
+residue_below : (p : ℕ) (e : Entry) → 0 < p → residue p e < p
+residue_below p e positive = go e.is_negative
+  where
+    go : (b : Bool) → (if b then neg_mod p (value e.digits % p) else value e.digits % p) < p
+    go true = mod_below _ p positive
+    go false = mod_below _ p positive
 
-pub record RingRead (bytes : List ℕ) (p : ℕ) (names rest : List ℕ) : Type 0 where
-  pub listed : is_listed p ≡ true
-  pub variables : AreVariables names
-  pub text : (cells : List ℕ) → bytes ≡ ring_text (record { characteristic = p; names = names; cells = cells }) ++ rest
+residues_below : (p : ℕ) (es : List Entry) → 0 < p → All (λ c. c < p) (map (residue p) es)
+residues_below p [] positive = All-nil (λ c. c < p)
+residues_below p (e ∷ es) positive = All-cons (λ c. c < p) (residue p e) (map (residue p) es) (residue_below p e positive) (residues_below p es positive)
 
-ring_text-parts : (p : ℕ) (names cells rest : List ℕ) → ring_text (record { characteristic = p; names = names; cells = cells }) ++ rest ≡ codes "ring R=" ++ (decimal p ++ (codes ",(" ++ (name_list names ++ (codes "),dp;" ++ rest))))
-unfolding ring_text
-ring_text-parts p names cells rest =
-    ap (λ t. codes "ring R=" ++ t) (append_assoc (decimal p) (codes ",(" ++ (name_list names ++ codes "),dp;")) rest ∙ ap (λ t. decimal p ++ (codes ",(" ++ t)) (append_assoc (name_list names) (codes "),dp;") rest))
+abbrev Shape : Type 0
+Shape = ℕ × ℕ × List ℕ
 
-ring_parts : (bytes a r b names s c : List ℕ) (p : ℕ) → after (codes "ring R=") bytes ≡ Some a → number_at 32003 a ≡ Some (p, r) → after (codes ",(") r ≡ Some b
-    → names_at b ≡ Some (names, s) → after (codes "),dp;") s ≡ Some c → is_listed p ≡ true → are_variables names ≡ true → RingRead bytes p names c
-ring_parts bytes a r b names s c p e1 e2 e3 e4 e5 listed variables =
-    let named = names_at-takes b (names, s) e4 in
-    let number = number_at-takes 32003 a p r (omega arith) e2 in
-    let t5 : s ≡ codes "),dp;" ++ c = after-takes (codes "),dp;") s c e5 in
-    let t4 : b ≡ name_list names ++ (codes "),dp;" ++ c) = named.text ∙ ap (λ t. name_list names ++ t) t5 in
-    let t3 : r ≡ codes ",(" ++ (name_list names ++ (codes "),dp;" ++ c)) = after-takes (codes ",(") r b e3 ∙ ap (λ t. codes ",(" ++ t) t4 in
-    let t2 : a ≡ decimal p ++ (codes ",(" ++ (name_list names ++ (codes "),dp;" ++ c))) = number.1 ∙ ap (λ t. decimal p ++ t) t3 in
+abbrev shape : Cells ℕ → Shape
+shape m = (m.rows, m.cols, m.cells.items)
+
+abbrev shape_of : ℕ → ℕ → Matrix → Shape
+shape_of p n m = (n, n, cells p m)
+
+generator_is : (p n : ℕ) (m : Cells ℕ) (g : Matrix) → 0 < p → shape m ≡ shape_of p n g → Fit n g → IsGenerator p n m
+generator_is p n m g positive same fit =
+    let cells_same : m.cells.items ≡ cells p g = ap (λ (x : Shape). x.2) same in
+    let many : length g.entries ≡ n * n = eqb-true _ _ (and_parts _ _ (and_parts _ _ fit).1).1 in
     record {
-      listed = listed;
-      variables = are_variables-found names named.some variables;
-      text = λ cells. after-takes (codes "ring R=") bytes a e1 ∙ ap (λ t. codes "ring R=" ++ t) t2 ∙ sym (ring_text-parts p names cells c);
+      rows = ap (λ (x : Shape). x.0) same;
+      cols = ap (λ (x : Shape). x.1) same;
+      square = ap length cells_same ∙ length-map g.entries (residue p) ∙ many;
+      below = subst (λ (cs : List ℕ). All (λ c. c < p) cs) (sym cells_same) (residues_below p g.entries positive);
     }
 
-pub ring_at-takes : (bytes : List ℕ) (x : ℕ × List ℕ × List ℕ) → ring_at bytes ≡ Some x → RingRead bytes x.0 x.1 x.2
-unfolding ring_at
-ring_at-takes bytes x is =
-    let s1 = bind_some (after (codes "ring R=") bytes) _ x is in
-    let s2 = bind_some (number_at 32003 s1.0) _ x s1.2 in
-    let s3 = bind_some (after (codes ",(") s2.0.1) _ x s2.2 in
-    let s4 = bind_some (names_at s3.0) _ x s3.2 in
-    let s5 = bind_some (after (codes "),dp;") s4.0.1) _ x s4.2 in
-    let made : ℕ × List ℕ × List ℕ = (s2.0.0, s4.0.0, s5.0) in
-    let tests = cond_some (is_listed s2.0.0 && are_variables s4.0.0) made x s5.2 in
-    let both = and_parts (is_listed s2.0.0) (are_variables s4.0.0) tests.0 in
-    subst (λ (y : ℕ × List ℕ × List ℕ). RingRead bytes y.0 y.1 y.2) tests.1 (ring_parts bytes s1.0 s2.0.1 s3.0 s4.0.0 s4.0.1 s5.0 s2.0.0 s1.1 s2.1 s3.1 s4.1 s5.1 both.0 both.1)
+head_same : (x y : Shape) (xs ys : List Shape) → x ∷ xs ≡ y ∷ ys → (x ≡ y) × (xs ≡ ys)
+head_same x y xs ys e = (cc, cc)
 
-matrix_text-parts : (p : ℕ) (names cells rest : List ℕ) → let n : List ℕ = decimal (length names) in
-    matrix_text (record { characteristic = p; names = names; cells = cells }) ++ rest ≡ codes "matrix A[" ++ (n ++ (codes "][" ++ (n ++ (codes "]=" ++ (join_with_byte 44 (map decimal cells) ++ (codes ";" ++ rest))))))
-unfolding matrix_text
-matrix_text-parts p names cells rest =
-    let n : List ℕ = decimal (length names) in
-    let all : List ℕ = join_with_byte 44 (map decimal cells) in
-    let t4 : List ℕ = codes "]=" ++ (all ++ codes ";") in
-    let last : t4 ++ rest ≡ codes "]=" ++ (all ++ (codes ";" ++ rest)) = ap (λ t. codes "]=" ++ t) (append_assoc all (codes ";") rest) in
-    let size : n ++ t4 ++ rest ≡ n ++ (codes "]=" ++ (all ++ (codes ";" ++ rest))) = append_assoc n t4 rest ∙ ap (λ t. n ++ t) last in
-    ap (λ t. codes "matrix A[" ++ t) (append_assoc n (codes "][" ++ (n ++ t4)) rest ∙ ap (λ t. n ++ (codes "][" ++ t)) size)
+gens_are : (p n : ℕ) (ms : List (Cells ℕ)) (gs : List Matrix) → 0 < p → map shape ms ≡ map (shape_of p n) gs → All (Fit n) gs → All (IsGenerator p n) ms
+gens_are p n [] gs positive same fit = All-nil (IsGenerator p n)
+gens_are p n (m ∷ ms) [] positive same fit = absurd cc
+gens_are p n (m ∷ ms) (g ∷ gs) positive same fit =
+    let parts = head_same (shape m) (shape_of p n g) (map shape ms) (map (shape_of p n) gs) same in
+    All-cons (IsGenerator p n) m ms (generator_is p n m g positive parts.0 (All-head (Fit n) g gs fit)) (gens_are p n ms gs positive parts.1 (All-tail (Fit n) g gs fit))
 
-pub record MatrixRead (bytes : List ℕ) (p : ℕ) (names cells rest : List ℕ) : Type 0 where
-  pub square : length cells ≡ length names * length names
-  pub below : All (λ c. c < p) cells
-  pub text : bytes ≡ matrix_text (record { characteristic = p; names = names; cells = cells }) ++ rest
+some_length : {A : Type 0} (xs : List A) → IsSome xs → 1 ≤ length xs
+some_length [] h = absurd h
+some_length (x ∷ xs) h = omega arith
 
-matrix_parts : (p : ℕ) (names bytes a b c d e cells f g : List ℕ) → 0 < p → p ≤ 32003 → 1 ≤ length names → length names ≤ 8 → after (codes "matrix A[") bytes ≡ Some a → numeral_at (length names) a ≡ Some b
-    → after (codes "][") b ≡ Some c → numeral_at (length names) c ≡ Some d → after (codes "]=") d ≡ Some e → numbers_at (p - 1) (length names * length names) e ≡ Some (cells, f) → after (codes ";") f ≡ Some g
-    → MatrixRead bytes p names cells g
-matrix_parts p names bytes a b c d e cells f g positive small some few e1 e2 e3 e4 e5 e6 e7 =
-    let n : List ℕ = decimal (length names) in
-    let all : List ℕ = join_with_byte 44 (map decimal cells) in
-    let many : 1 ≤ length names * length names = grind arith in
-    let numbers = numbers_at-takes (p - 1) (length names * length names) e (cells, f) many (omega arith) e6 in
-    let t6 : e ≡ all ++ (codes ";" ++ g) = numbers.text ∙ ap (λ t. all ++ t) (after-takes (codes ";") f g e7) in
-    let t5 : d ≡ codes "]=" ++ (all ++ (codes ";" ++ g)) = after-takes (codes "]=") d e e5 ∙ ap (λ t. codes "]=" ++ t) t6 in
-    let t4 : c ≡ n ++ (codes "]=" ++ (all ++ (codes ";" ++ g))) = numeral_at-takes (length names) c d (omega arith) e4 ∙ ap (λ t. n ++ t) t5 in
-    let t3 : b ≡ codes "][" ++ (n ++ (codes "]=" ++ (all ++ (codes ";" ++ g)))) = after-takes (codes "][") b c e3 ∙ ap (λ t. codes "][" ++ t) t4 in
-    let t2 : a ≡ n ++ (codes "][" ++ (n ++ (codes "]=" ++ (all ++ (codes ";" ++ g))))) = numeral_at-takes (length names) a b (omega arith) e2 ∙ ap (λ t. n ++ t) t3 in
+pub sound_script : (t : Tree) (s : Script) → IsScript t → HasFault t None → IsScriptOf t s → IsSound s
+sound_script t s tree fault is =
+    let none = no_first (first_of (value_conditions t)) t fault in
+    let after_size : Option InputFault = option_or (some_matrix (generators t)) None in
+    let after_unknown : Option InputFault = option_or (size_fault t) after_size in
+    let after_twice : Option InputFault = option_or (unknown_fault t) after_unknown in
+    let after_variables : Option InputFault = option_or (twice_fault t) after_twice in
+    let after_field : Option InputFault = option_or (variables_fault t) after_variables in
+    let numbers = or_none (number_fault t) (option_or (field_fault t) after_field) none in
+    let field = or_none (field_fault t) after_field numbers.1 in
+    let variables = or_none (variables_fault t) after_variables field.1 in
+    let twice = or_none (twice_fault t) after_twice variables.1 in
+    let unknown = or_none (unknown_fault t) after_unknown twice.1 in
+    let size = or_none (size_fault t) after_size unknown.1 in
+    let p = value t.characteristic in
+    let n = length t.variables in
+    let listed : is_listed p ≡ true = if_none (is_listed p) _ field.0 in
+    let few : n ≤ 8 = leb-true _ _ (if_none (nat_le n 8) _ variables.0) in
+    let fit : All (Fit n) (generators t) = generators_all (Fit n) t (no_misfit n (matrices t) (map_none (λ w. faults.Size w) (first_misfit n (matrices t)) size.0)) in
+    let gens : All (IsGenerator p n) s.gens.items = gens_are p n s.gens.items (generators t) (listed_positive p listed) is.gens fit in
+    let many : length s.names.items ≡ n = ap length is.names in
     record {
-      square = numbers.numbers.count;
-      below = All-weaker (λ c. c ≤ p - 1) (λ c. c < p) (λ x h. omega arith) cells numbers.numbers.within;
-      text = after-takes (codes "matrix A[") bytes a e1 ∙ ap (λ t. codes "matrix A[" ++ t) t2 ∙ sym (matrix_text-parts p names cells g);
+      listed = subst (λ (q : ℕ). is_listed q ≡ true) (sym is.characteristic) listed;
+      some = subst (λ (k : ℕ). 1 ≤ k) (sym many) (some_length t.variables tree.some);
+      few = subst (λ (k : ℕ). k ≤ 8) (sym many) few;
+      gens = subst (λ (q : ℕ). All (IsGenerator q (length s.names.items)) s.gens.items) (sym is.characteristic) (subst (λ (k : ℕ). All (IsGenerator p k) s.gens.items) (sym many) gens);
     }
 
-pub matrix_at-takes : (p : ℕ) (names bytes : List ℕ) (x : List ℕ × List ℕ) → 0 < p → p ≤ 32003 → 1 ≤ length names → length names ≤ 8 → matrix_at p (length names) bytes ≡ Some x → MatrixRead bytes p names x.0 x.1
-unfolding matrix_at
-matrix_at-takes p names bytes x positive small some few is =
-    let n = length names in
-    let s1 = bind_some (after (codes "matrix A[") bytes) _ x is in
-    let s2 = bind_some (numeral_at n s1.0) _ x s1.2 in
-    let s3 = bind_some (after (codes "][") s2.0) _ x s2.2 in
-    let s4 = bind_some (numeral_at n s3.0) _ x s3.2 in
-    let s5 = bind_some (after (codes "]=") s4.0) _ x s4.2 in
-    let s6 = bind_some (numbers_at (p - 1) (n * n) s5.0) _ x s5.2 in
-    let s7 = bind_some (after (codes ";") s6.0.1) _ x s6.2 in
-    subst (λ (y : List ℕ × List ℕ). MatrixRead bytes p names y.0 y.1) (some_is (s6.0.0, s7.0) x s7.2)
-    (matrix_parts p names bytes s1.0 s2.0 s3.0 s4.0 s5.0 s6.0.0 s6.0.1 s7.0 positive small some few s1.1 s2.1 s3.1 s4.1 s5.1 s6.1 s7.1)
-
-blank_at-takes : (bytes rest : List ℕ) → blank_at bytes ≡ Some rest → (b : ℕ) × IsBlank b × (bytes ≡ b ∷ rest)
-unfolding blank_at
-blank_at-takes [] rest is = absurd cc
-blank_at-takes (b ∷ bytes) rest is =
-    let test = cond_some (eqb b 32 || eqb b 10) bytes rest is in
-    let blank : IsBlank b = elim (or_cases _ _ test.0) [ inl e ↦ inl (eqb-true _ _ e) | inr e ↦ inr (eqb-true _ _ e) ] in
-    (b, blank, ap (λ t. b ∷ t) test.1)
-
-end_at-takes : (bytes : List ℕ) (u : Unit {0}) → end_at bytes ≡ Some u → IsEnding bytes
-unfolding end_at
-end_at-takes [] u is = inl refl
-end_at-takes (b ∷ []) u is = inr (ap (λ t. t ∷ []) (eqb-true _ _ (cond_some (eqb b 10) tt u is).0))
-end_at-takes (b ∷ c ∷ bytes) u is = absurd cc
-
-script_parts : (bytes a b c : List ℕ) (p : ℕ) (names cells : List ℕ) (u : Unit {0}) → ring_at bytes ≡ Some (p, names, a) → blank_at a ≡ Some b → matrix_at p (length names) b ≡ Some (cells, c)
-    → end_at c ≡ Some u → length bytes ≤ 4096 → ThinScriptText bytes (record { characteristic = p; names = names; cells = cells })
-script_parts bytes a b c p names cells u e1 e2 e3 e4 short =
-    let ring = ring_at-takes bytes (p, names, a) e1 in
-    let blank = blank_at-takes a b e2 in
-    let matrix = matrix_at-takes p names b (cells, c) (listed_positive p ring.listed) (listed_within p ring.listed) ring.variables.some ring.variables.few e3 in
-    record {
-      script = record { listed = ring.listed; variables = ring.variables; square = matrix.square; below = matrix.below };
-      short = short;
-      blank = blank.0;
-      ending = c;
-      is_blank = blank.1;
-      is_ending = end_at-takes c u e4;
-      text = ring.text cells ∙ ap (λ t. ring_text (record { characteristic = p; names = names; cells = cells }) ++ t) (blank.2 ∙ ap (λ t. blank.0 ∷ t) matrix.text);
-    }
-
-pub script_at-takes : (bytes : List ℕ) (s : ThinScript) → script_at bytes ≡ Some s → ThinScriptText bytes s
-unfolding script_at
-script_at-takes bytes s is =
-    let s1 = bind_some (ring_at bytes) _ s is in
-    let s2 = bind_some (blank_at s1.0.2) _ s s1.2 in
-    let s3 = bind_some (matrix_at s1.0.0 (length s1.0.1) s2.0) _ s s2.2 in
-    let s4 = bind_some (end_at s3.0.1) _ s s3.2 in
-    let test = cond_some (nat_le (length bytes) 4096) (record { characteristic = s1.0.0; names = s1.0.1; cells = s3.0.0 }) s s4.2 in
-    subst (ThinScriptText bytes) test.1 (script_parts bytes s1.0.2 s2.0 s3.0.1 s1.0.0 s1.0.1 s3.0.0 s4.0 s1.1 s2.1 s3.1 s4.1 (leb-true _ _ test.0))
-
--- bytes are the text of one script at most
-pub ThinScriptText-unique : (bytes : List ℕ) (s t : ThinScript) → ThinScriptText bytes s → ThinScriptText bytes t → s ≡ t
-ThinScriptText-unique bytes s t is is' = some_is s t (sym (script_at-again bytes s is) ∙ script_at-again bytes t is')
-
--- the two laws, of what a reader gives
-pub script-found : {X : Type 0} (view : X → ThinScript) (bytes : List ℕ) (r : Result X ReadError) → Gives view r (script_at bytes) → IfOk r (λ x. ThinScriptText bytes (view x))
-script-found view bytes (Ok x) given = script_at-takes bytes (view x) given
-script-found view bytes (Err e) given = tt
-
-pub script-only : {X : Type 0} (view : X → ThinScript) (bytes : List ℕ) (r : Result X ReadError) → Gives view r (script_at bytes) → r ≡ Err errors.Malformed → (s : ThinScript) → ¬ ThinScriptText bytes s
-script-only {X} view bytes r given is s text =
-    let none : script_at bytes ≡ None = subst (λ (t : Result X ReadError). Gives view t (script_at bytes)) is given in
-    let read : script_at bytes ≡ Some s = script_at-again bytes s text in
-    absurd cc
+-- so is a script that was read
+pub sound_read : (bytes : List ℕ) (s : Script) → (t : Tree) × IsText t bytes × (length bytes ≤ 16777216) × HasFault t None × IsScriptOf t s → IsSound s
+sound_read bytes s read = sound_script read.0 s read.1.script read.3 read.4

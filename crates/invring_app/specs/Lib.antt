@@ -1,8 +1,7 @@
 pub mod Numerals
 pub mod Commands
 pub mod WordReading
-pub mod ThinScripts
-pub mod Reading
+pub mod Scripts
 pub mod Refusals
 pub mod Outputs
 pub mod Bases

@@ -25,7 +25,11 @@ use Rattle.invring_app.specs.declared.words.Reading.{Reading}
 use Rattle.invring_app.specs.declared.words.Request.{Request}
 use Rattle.invring_app.specs.Commands.{least, most}
 use Rattle.invring_app.specs.Numerals.{number_of}
-use Rattle.invring_app.specs.Reading.{◌>>=◌}
+
+infixl 10 ◌>>=◌
+abbrev pub ◌>>=◌ : {A B : Type 0} → Option A → (A → Option B) → Option B
+(Some x) >>= f = f x
+None >>= f = None
 
 abbrev pub given_at : Given → Argument → Option ℕ
 given_at g Number = g.number

@@ -1,14 +1,15 @@
-ghost use Rattle.std.specs.Prelude.{◌≡◌, ◌<◌, ◌≤◌, Err, IfOk, OnOk};
+ghost use Rattle.std.specs.Prelude.{◌≡◌, ◌≤◌, Err, IfOk, OnOk};
+ghost use Rattle.finvar_text.specs.Scripts.{IsInputFault};
+ghost use Rattle.finvar_text.specs.Syntax.{Script as Tree};
 ghost use Rattle.invring_app.specs.Outcomes.{count_of, IsTermBound};
 ghost use Rattle.invring_app.specs.Bases.{IsBasisText};
 ghost use Rattle.invring_app.specs.Outputs.{IsLines};
-ghost use Rattle.invring_app.specs.ThinScripts.{ThinScript, ThinScriptText};
+ghost use Rattle.invring_app.specs.Scripts.{IsScriptText, IsSyntaxFault};
 
 use crate::basis::basis_text;
-use crate::fault::ReadError;
-use crate::script::read_script;
 use crate::status::BoundFault;
-use alg_core::{Memory, Place};
+use alg_core::{InputFault, Memory, Place};
+use finvar_text::{ScriptFault, read_script};
 use invariant_space::SpaceFault;
 use std::alloc::Global;
 
@@ -17,6 +18,7 @@ use std::alloc::Global;
 pub(crate) enum Refusal {
     Memory,
     Syntax(Place),
+    Input(InputFault),
     Bound(BoundFault),
 }
 
@@ -31,16 +33,17 @@ impl From<Memory> for Refusal {
     }
 }
 
-impl From<ReadError> for Refusal {
+impl From<ScriptFault> for Refusal {
     ghost use Rattle.invring_app.specs.Refusals.{refusal_of};
     ghost use Rattle.std.specs.Prelude.{◌≡◌};
 
     ghost from_gives = { λ e r. r ≡ refusal_of e };
 
-    fn from(error: ReadError) -> Refusal {
-        match error {
-            ReadError::Memory => Refusal::Memory,
-            ReadError::Malformed => Refusal::Syntax(Place::Byte(0)),
+    fn from(fault: ScriptFault) -> Refusal {
+        match fault {
+            ScriptFault::Syntax { place } => Refusal::Syntax(Place::Byte(place)),
+            ScriptFault::Input(fault) => Refusal::Input(fault),
+            ScriptFault::Memory => Refusal::Memory,
         }
     }
 }
@@ -70,10 +73,11 @@ pub(crate) fn answer(
 ) -> Result<Vec<u8>, Refusal>
     requires degree { degree ≤ 1000 }
     ensures lines { IfOk result (λ text. IsLines text.items) }
-    ensures script { OnOk result ((s : ThinScript) × ThinScriptText bytes.now s × (count_of degree s ≤ max_terms)) }
-    ensures basis { IfOk result (λ text. (s : ThinScript) × ThinScriptText bytes.now s × (count_of degree s ≤ max_terms) × IsBasisText s degree text.items) }
-    ensures syntax { (place : Place) → result ≡ Err (Refusal.Syntax place) → (place ≡ Place.Byte 0) × ((s : ThinScript) → ¬ ThinScriptText bytes.now s) }
-    ensures bound { (fault : BoundFault) → result ≡ Err (Refusal.Bound fault) → (s : ThinScript) × ThinScriptText bytes.now s × IsTermBound fault degree max_terms s }
+    ensures script { OnOk result ((t : Tree) × IsScriptText bytes.now t × (count_of degree t ≤ max_terms)) }
+    ensures basis { IfOk result (λ text. (t : Tree) × IsScriptText bytes.now t × (count_of degree t ≤ max_terms) × IsBasisText t degree text.items) }
+    ensures syntax { (place : Place) → result ≡ Err (Refusal.Syntax place) → IsSyntaxFault bytes.now place }
+    ensures input { (fault : InputFault) → result ≡ Err (Refusal.Input fault) → IsInputFault bytes.now fault }
+    ensures bound { (fault : BoundFault) → result ≡ Err (Refusal.Bound fault) → (t : Tree) × IsScriptText bytes.now t × IsTermBound fault degree max_terms t }
 {
     let script = read_script(alloc, bytes)?;
     let text = basis_text(alloc, script, degree, max_terms)?;

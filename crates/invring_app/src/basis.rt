@@ -1,29 +1,44 @@
 //! The echelon basis of the invariants of one degree, as lines of text.
 
-ghost use Rattle.std.specs.Prelude.{◌≡◌, ◌<◌, ◌≤◌, ◌∷◌, ℕ, [], Err, None, IfOk, length, map, replicate, All};
+ghost use Rattle.std.specs.Prelude.{◌≡◌, ◌<◌, ◌≤◌, ◌∷◌, ℕ, [], true, Err, IfOk, length, map, replicate, All};
 ghost use Rattle.alg_core.specs.Spaces.{over, entries, Fits};
+ghost use Rattle.finvar_text.specs.Scripts.{IsScriptOf};
+ghost use Rattle.finvar_text.specs.Syntax.{Script as Tree};
 ghost use Rattle.poly_text.specs.Texts.{place_count};
-ghost use Rattle.invring_app.specs.Bases.{thin_script, lines, IsBasisText};
+ghost use Rattle.prime_field.specs.ListedPrimes.{is_listed};
+ghost use Rattle.prime_field.specs.PrimeFields.{IsPrimeField};
+ghost use Rattle.invring_app.specs.Bases.{lines, IsBasisText, IsSound};
 ghost use Rattle.invring_app.specs.Outcomes.{count_of};
 ghost use Rattle.invring_app.specs.Outputs.{IsLines};
-ghost use Rattle.invring_app.specs.ThinScripts.{IsThinScript, IsSmallLetter};
 
-use crate::script::Script;
 use alg_core::{Dp, Field, Grading, Memory, Name, Space, TermOrder};
+use finvar_text::Script;
 use invariant_space::{SpaceFault, basis};
-use lin_algebra::Matrix;
 use poly_module::Poly;
 use poly_text::{Names, print_poly};
 use prime_field::PrimeField;
 use std::alloc::Global;
 
-/// The polynomials in `n` variables, each of degree 1, by degree reverse lexicographic order.
-fn polynomials(alloc: Global, field: PrimeField, n: usize) -> Result<Space<PrimeField, Dp>, Memory>
+/// The prime field of a characteristic.
+fn field_of(characteristic: u32) -> PrimeField
+    requires listed { is_listed characteristic ≡ true }
+    ensures is { IsPrimeField characteristic (⟦<PrimeField as Field>⟧.field result) }
+{
+    PrimeField::new(characteristic).unwrap()
+}
+
+/// The polynomials in these variables, each of degree 1, by degree reverse lexicographic order.
+fn polynomials(
+    alloc: Global,
+    field: PrimeField,
+    names: &[Name],
+) -> Result<Space<PrimeField, Dp>, Memory>
     ensures field { IfOk result (λ s. s.field ≡ field) }
-    ensures order { IfOk result (λ s. s.order.weights.items ≡ replicate n 1) }
-    ensures weights { IfOk result (λ s. s.grading.weights.items ≡ replicate n 1) }
+    ensures order { IfOk result (λ s. s.order.weights.items ≡ replicate (length names.now) 1) }
+    ensures weights { IfOk result (λ s. s.grading.weights.items ≡ replicate (length names.now) 1) }
     ensures shifts { IfOk result (λ s. s.grading.shifts.items ≡ 0 ∷ []) }
 {
+    let n = names.len();
     let order = Dp {
         weights: vec![in alloc; 1; n]?,
     };
@@ -35,25 +50,6 @@ fn polynomials(alloc: Global, field: PrimeField, n: usize) -> Result<Space<Prime
         field,
         order,
         grading,
-    })
-}
-
-/// The variables with these letters for names.
-fn variables(alloc: Global, letters: &[u8]) -> Result<Names, Memory>
-    requires letters { All IsSmallLetter letters.now }
-    ensures vars { IfOk result (λ n. n.vars.items ≡ map (λ b. b ∷ []) letters.now) }
-    ensures primaries { IfOk result (λ n. n.primaries ≡ None) }
-    ensures irreducibles { IfOk result (λ n. n.irreducibles ≡ None) }
-{
-    let mut vars = Vec::new(alloc);
-    for i in 0..letters.len() {
-        let letter = [letters[i]];
-        vars.push(Name::new(alloc, &letter)?)?;
-    }
-    Ok(Names {
-        vars,
-        primaries: None,
-        irreducibles: None,
     })
 }
 
@@ -79,7 +75,7 @@ fn lines(
     Ok(text)
 }
 
-/// The lines of the echelon basis of the invariants of this degree of the script's matrix: its
+/// The lines of the echelon basis of the invariants of this degree of the script's generators: its
 /// polynomials by falling leads. TermBound says that the degree has more than `max_terms` monomials.
 pub(crate) fn basis_text(
     alloc: Global,
@@ -87,23 +83,22 @@ pub(crate) fn basis_text(
     degree: u32,
     max_terms: u32,
 ) -> Result<Vec<u8>, SpaceFault>
-    requires script { IsThinScript (thin_script script) }
+    requires sound { IsSound script }
     requires degree { degree ≤ 1000 }
     ensures lines { IfOk result (λ t. IsLines t.items) }
-    ensures basis { IfOk result (λ t. IsBasisText (thin_script script) degree t.items) }
-    ensures bound { (d count : ℕ) → result ≡ Err (SpaceFault.TermBound d count)
-        → (d ≡ degree) × (count ≡ count_of degree (thin_script script)) × (max_terms < count) }
-    ensures within { IfOk result (λ _. count_of degree (thin_script script) ≤ max_terms) }
+    ensures basis { (tree : Tree) → IsScriptOf tree script → IfOk result (λ t. IsBasisText tree degree t.items) }
+    ensures bound { (tree : Tree) (d count : ℕ) → IsScriptOf tree script → result ≡ Err (SpaceFault.TermBound d count)
+        → (d ≡ degree) × (count ≡ count_of degree tree) × (max_terms < count) }
+    ensures within { (tree : Tree) → IsScriptOf tree script → IfOk result (λ _. count_of degree tree ≤ max_terms) }
 {
-    let size = script.names.len();
-    let space = polynomials(alloc, script.field, size)?;
-    let names = variables(alloc, &script.names)?;
-    let matrix = Matrix {
-        rows: size as u64,
-        cols: size as u64,
-        cells: script.cells,
+    let field = field_of(script.characteristic);
+    let space = polynomials(alloc, field, &script.names)?;
+    let basis = basis(alloc, &space, &script.gens, degree, max_terms)?;
+    let names = Names {
+        vars: script.names,
+        primaries: None,
+        irreducibles: None,
     };
-    let basis = basis(alloc, &space, &[matrix], degree, max_terms)?;
     let text = lines(alloc, &space, &names, &basis)?;
     Ok(text)
 }

@@ -6,7 +6,7 @@ ghost use Rattle.invring_app.specs.declared.status.BoundFault.TheVariants.{TermB
 
 use crate::digits::Digits;
 use crate::status::{BoundFault, Status};
-use alg_core::Place;
+use alg_core::{InputFault, Name, Place};
 use inv_outside::{Failed, Sink, write_all};
 
 /// Writes the pieces and a newline.
@@ -22,6 +22,27 @@ fn write_line<E: Sink>(err: &mut E, pieces: &[&[u8]]) -> Result<(), Failed>
     write_all(err, b"\n")
 }
 
+/// Writes the line of a number.
+fn write_number<E: Sink>(err: &mut E, text: &[u8], number: u128) -> Result<(), Failed>
+    ensures ok { let line = line_of (text.now ∷ decimal number ∷ []) in OnOk result (Took (E.taken err.old) line (E.taken err.new)) }
+    ensures err { let line = line_of (text.now ∷ decimal number ∷ []) in OnErr result ((k : ℕ) × (k ≤ length line) × Took (E.taken err.old) (take k line) (E.taken err.new)) }
+    ensures cause { IsErr result → Rose (E.faults err.old) (E.faults err.new) }
+    ensures later { E.faults err.old ≤ E.faults err.new }
+{
+    let digits = Digits::of(number);
+    write_line(err, &[text, digits.as_slice()])
+}
+
+/// Writes the line of a name.
+fn write_name<E: Sink>(err: &mut E, text: &[u8], name: &Name) -> Result<(), Failed>
+    ensures ok { let line = line_of (text.now ∷ name.now ∷ []) in OnOk result (Took (E.taken err.old) line (E.taken err.new)) }
+    ensures err { let line = line_of (text.now ∷ name.now ∷ []) in OnErr result ((k : ℕ) × (k ≤ length line) × Took (E.taken err.old) (take k line) (E.taken err.new)) }
+    ensures cause { IsErr result → Rose (E.faults err.old) (E.faults err.new) }
+    ensures later { E.faults err.old ≤ E.faults err.new }
+{
+    write_line(err, &[text, name.bytes()])
+}
+
 /// Writes the line of a place.
 fn write_place<E: Sink>(err: &mut E, place: Place) -> Result<(), Failed>
     ensures ok { let line = error_line (ends.Syntax place) in OnOk result (Took (E.taken err.old) line (E.taken err.new)) }
@@ -30,14 +51,28 @@ fn write_place<E: Sink>(err: &mut E, place: Place) -> Result<(), Failed>
     ensures later { E.faults err.old ≤ E.faults err.new }
 {
     match place {
-        Place::Byte(at) => {
-            let digits = Digits::of(u128::from(at));
-            write_line(err, &[b"syntax place ", digits.as_slice()])
-        }
-        Place::Line(at) => {
-            let digits = Digits::of(u128::from(at));
-            write_line(err, &[b"syntax line ", digits.as_slice()])
-        }
+        Place::Byte(at) => write_number(err, b"syntax place ", u128::from(at)),
+        Place::Line(at) => write_number(err, b"syntax line ", u128::from(at)),
+    }
+}
+
+/// Writes the line of a faulty input.
+fn write_input<E: Sink>(err: &mut E, fault: &InputFault) -> Result<(), Failed>
+    ensures ok { let line = error_line (ends.Input fault.now) in OnOk result (Took (E.taken err.old) line (E.taken err.new)) }
+    ensures err { let line = error_line (ends.Input fault.now) in OnErr result ((k : ℕ) × (k ≤ length line) × Took (E.taken err.old) (take k line) (E.taken err.new)) }
+    ensures cause { IsErr result → Rose (E.faults err.old) (E.faults err.new) }
+    ensures later { E.faults err.old ≤ E.faults err.new }
+{
+    match fault {
+        InputFault::Long => write_line(err, &[b"input long"]),
+        InputFault::Number => write_line(err, &[b"input number"]),
+        InputFault::Field { p } => write_number(err, b"input field ", *p),
+        InputFault::Variables { n } => write_number(err, b"input variables ", u128::from(*n)),
+        InputFault::Twice { name } => write_name(err, b"input twice ", name),
+        InputFault::Unknown { name } => write_name(err, b"input unknown ", name),
+        InputFault::Size { name } => write_name(err, b"input size ", name),
+        InputFault::NoMatrix => write_line(err, &[b"input none"]),
+        InputFault::Singular { name } => write_name(err, b"input singular ", name),
     }
 }
 
@@ -66,6 +101,7 @@ pub fn write_error<E: Sink>(err: &mut E, status: &Status) -> Result<(), Failed>
         Status::Done => Ok(()),
         Status::Usage => write_line(err, &[b"usage"]),
         Status::Syntax(place) => write_place(err, *place),
+        Status::Input(fault) => write_input(err, fault),
         Status::Bound(BoundFault::TermBound { degree, count }) => write_terms(err, *degree, *count),
         Status::ReadFault => write_line(err, &[b"read"]),
         Status::WriteFault => write_line(err, &[b"write"]),

@@ -4,15 +4,10 @@
 mod answer;
 mod arguments;
 mod basis;
-mod cells;
 mod digits;
 mod error_line;
-mod fault;
 mod given;
-mod names;
 mod number;
-mod parts;
-mod script;
 mod status;
 mod top_call;
 mod words;

@@ -1,6 +1,6 @@
 ghost use Rattle.std.specs.Prelude.{◌≡◌};
 
-use alg_core::Place;
+use alg_core::{InputFault, Place};
 
 /// A bound of the program that was met.
 #[derive(Clone, Copy, Debug, PartialEq, Eq)]
@@ -17,6 +17,8 @@ pub enum Status {
     Usage,
     /// The bytes are no script.
     Syntax(Place),
+    /// They are too many, or a script with a faulty value.
+    Input(InputFault),
     Bound(BoundFault),
     /// The source failed.
     ReadFault,
@@ -37,6 +39,7 @@ impl Status {
             Status::Done => 0,
             Status::Usage => 2,
             Status::Syntax(_) => 3,
+            Status::Input(_) => 4,
             Status::Bound(_) => 5,
             Status::ReadFault => 6,
             Status::WriteFault => 7,

@@ -7,21 +7,25 @@ ghost use Rattle.invring_app.specs.ErrorLines.{error_line};
 ghost use Rattle.invring_app.specs.Outcomes.{Asks, IsPastReading, Writes, IsTermBound, count_of};
 ghost use Rattle.invring_app.specs.Bases.{IsBasisText};
 ghost use Rattle.invring_app.specs.Outputs.{IsLines};
-ghost use Rattle.invring_app.specs.ThinScripts.{ThinScript, ThinScriptText};
+ghost use Rattle.invring_app.specs.Scripts.{IsScriptText};
+ghost use Rattle.finvar_text.specs.Scripts.{IsInputFault};
+ghost use Rattle.finvar_text.specs.Syntax.{Script as Tree, IsFirstFault};
 
 use crate::answer::{Refusal, answer};
 use crate::error_line::write_error;
-use crate::script::LIMIT;
 use crate::status::{BoundFault, Status};
 use crate::words::read_words;
-use alg_core::Place;
+use alg_core::{InputFault, Place};
 use inv_outside::{ReadFault, Sink, Source, read_all, write_all};
 use std::alloc::Global;
 
+/// The greatest length of a script, in bytes.
+const LIMIT: usize = 16777216;
+
 /// Does what the words ask for: reads the script to its end, and writes the basis.
 ///
-/// Of several faults the first one is answered, in the order words, reading, script, bound,
-/// writing; `Memory` may come wherever the words are a command. All of the output is made before
+/// Of several faults the first one is answered, in the order words, reading, length,
+/// syntax, values, bound, writing; `Memory` may come wherever the words are a command. All of the output is made before
 /// its first byte is written. At every status but `Done` one line goes to `err`; a fault of `err`
 /// leaves the status as it is.
 pub fn run<S: Source, O: Sink, E: Sink>(
@@ -37,25 +41,25 @@ pub fn run<S: Source, O: Sink, E: Sink>(
     ensures idle { result ≡ Status.Usage → src.new ≡ src.old }
 
     // Reading, and what was read: at most one byte more than a script may have.
-    ensures gave { (bytes : List ℕ) × (length bytes ≤ 4097) × Gave (S.left src.old) bytes (S.left src.new) }
+    ensures gave { (bytes : List ℕ) × (length bytes ≤ 16777217) × Gave (S.left src.old) bytes (S.left src.new) }
     ensures read { result ≡ Status.ReadFault → Rose (S.faults src.old) (S.faults src.new) }
-    ensures place { (p : Place) → result ≡ Status.Syntax p → p ≡ Place.Byte 0 }
-    ensures syntax { (p : Place) → result ≡ Status.Syntax p → IfSome (S.left src.old) (λ bytes. (s : ThinScript) → ¬ ThinScriptText bytes s) }
-    ensures script { IsPastReading result → IfSome (S.left src.old) (λ bytes. (s : ThinScript) × ThinScriptText bytes s) }
+    ensures syntax { (p : Place) → result ≡ Status.Syntax p → (n : ℕ) × (p ≡ Place.Byte n) × IfSome (S.left src.old) (λ bytes. IsFirstFault bytes n × (length bytes ≤ 16777216)) }
+    ensures input { (f : InputFault) → result ≡ Status.Input f → IfSome (S.left src.old) (λ bytes. IsInputFault bytes f) }
+    ensures script { IsPastReading result → IfSome (S.left src.old) (λ bytes. (t : Tree) × IsScriptText bytes t) }
     ensures end { IsPastReading result → IfSome (S.left src.new) (λ rest. rest ≡ []) }
 
     // The bound.
-    ensures bound { (f : BoundFault) (d : ℕ) (limits : Limits) (s : ThinScript) → result ≡ Status.Bound f → Asks (map string_bytes words.now) (S.left src.old) d limits s → IsTermBound f d limits.max_terms s }
-    ensures within { (d : ℕ) (limits : Limits) (s : ThinScript) → Writes result → Asks (map string_bytes words.now) (S.left src.old) d limits s → count_of d s ≤ limits.max_terms }
+    ensures bound { (f : BoundFault) (d : ℕ) (limits : Limits) (t : Tree) → result ≡ Status.Bound f → Asks (map string_bytes words.now) (S.left src.old) d limits t → IsTermBound f d limits.max_terms t }
+    ensures within { (d : ℕ) (limits : Limits) (t : Tree) → Writes result → Asks (map string_bytes words.now) (S.left src.old) d limits t → count_of d t ≤ limits.max_terms }
 
     // What is written.
     ensures done { result ≡ Status.Done → (text : List ℕ) × IsLines text × Took (O.taken out.old) text (O.taken out.new) }
-    ensures basis { (d : ℕ) (limits : Limits) (s : ThinScript) → result ≡ Status.Done → Asks (map string_bytes words.now) (S.left src.old) d limits s
-        → (text : List ℕ) × IsBasisText s d text × Took (O.taken out.old) text (O.taken out.new) }
+    ensures basis { (d : ℕ) (limits : Limits) (t : Tree) → result ≡ Status.Done → Asks (map string_bytes words.now) (S.left src.old) d limits t
+        → (text : List ℕ) × IsBasisText t d text × Took (O.taken out.old) text (O.taken out.new) }
     ensures write { result ≡ Status.WriteFault → Rose (O.faults out.old) (O.faults out.new) }
     ensures front { result ≡ Status.WriteFault → (text : List ℕ) × (k : ℕ) × IsLines text × (k < length text) × Took (O.taken out.old) (take k text) (O.taken out.new) }
-    ensures basis_front { (d : ℕ) (limits : Limits) (s : ThinScript) → result ≡ Status.WriteFault → Asks (map string_bytes words.now) (S.left src.old) d limits s
-        → (text : List ℕ) × (k : ℕ) × IsBasisText s d text × (k < length text) × Took (O.taken out.old) (take k text) (O.taken out.new) }
+    ensures basis_front { (d : ℕ) (limits : Limits) (t : Tree) → result ≡ Status.WriteFault → Asks (map string_bytes words.now) (S.left src.old) d limits t
+        → (text : List ℕ) × (k : ℕ) × IsBasisText t d text × (k < length text) × Took (O.taken out.old) (take k text) (O.taken out.new) }
     ensures silent { ¬ Writes result → out.new ≡ out.old }
 
     // The error line: its front, all of it where `err` had no fault, and nothing where the run is done.
@@ -76,25 +80,25 @@ fn work<S: Source, O: Sink>(alloc: Global, words: &[String], src: &mut S, out: &
     ensures idle { result ≡ Status.Usage → src.new ≡ src.old }
 
     // Reading, and what was read: at most one byte more than a script may have.
-    ensures gave { (bytes : List ℕ) × (length bytes ≤ 4097) × Gave (S.left src.old) bytes (S.left src.new) }
+    ensures gave { (bytes : List ℕ) × (length bytes ≤ 16777217) × Gave (S.left src.old) bytes (S.left src.new) }
     ensures read { result ≡ Status.ReadFault → Rose (S.faults src.old) (S.faults src.new) }
-    ensures place { (p : Place) → result ≡ Status.Syntax p → p ≡ Place.Byte 0 }
-    ensures syntax { (p : Place) → result ≡ Status.Syntax p → IfSome (S.left src.old) (λ bytes. (s : ThinScript) → ¬ ThinScriptText bytes s) }
-    ensures script { IsPastReading result → IfSome (S.left src.old) (λ bytes. (s : ThinScript) × ThinScriptText bytes s) }
+    ensures syntax { (p : Place) → result ≡ Status.Syntax p → (n : ℕ) × (p ≡ Place.Byte n) × IfSome (S.left src.old) (λ bytes. IsFirstFault bytes n × (length bytes ≤ 16777216)) }
+    ensures input { (f : InputFault) → result ≡ Status.Input f → IfSome (S.left src.old) (λ bytes. IsInputFault bytes f) }
+    ensures script { IsPastReading result → IfSome (S.left src.old) (λ bytes. (t : Tree) × IsScriptText bytes t) }
     ensures end { IsPastReading result → IfSome (S.left src.new) (λ rest. rest ≡ []) }
 
     // The bound.
-    ensures bound { (f : BoundFault) (d : ℕ) (limits : Limits) (s : ThinScript) → result ≡ Status.Bound f → Asks (map string_bytes words.now) (S.left src.old) d limits s → IsTermBound f d limits.max_terms s }
-    ensures within { (d : ℕ) (limits : Limits) (s : ThinScript) → Writes result → Asks (map string_bytes words.now) (S.left src.old) d limits s → count_of d s ≤ limits.max_terms }
+    ensures bound { (f : BoundFault) (d : ℕ) (limits : Limits) (t : Tree) → result ≡ Status.Bound f → Asks (map string_bytes words.now) (S.left src.old) d limits t → IsTermBound f d limits.max_terms t }
+    ensures within { (d : ℕ) (limits : Limits) (t : Tree) → Writes result → Asks (map string_bytes words.now) (S.left src.old) d limits t → count_of d t ≤ limits.max_terms }
 
     // What is written.
     ensures done { result ≡ Status.Done → (text : List ℕ) × IsLines text × Took (O.taken out.old) text (O.taken out.new) }
-    ensures basis { (d : ℕ) (limits : Limits) (s : ThinScript) → result ≡ Status.Done → Asks (map string_bytes words.now) (S.left src.old) d limits s
-        → (text : List ℕ) × IsBasisText s d text × Took (O.taken out.old) text (O.taken out.new) }
+    ensures basis { (d : ℕ) (limits : Limits) (t : Tree) → result ≡ Status.Done → Asks (map string_bytes words.now) (S.left src.old) d limits t
+        → (text : List ℕ) × IsBasisText t d text × Took (O.taken out.old) text (O.taken out.new) }
     ensures write { result ≡ Status.WriteFault → Rose (O.faults out.old) (O.faults out.new) }
     ensures front { result ≡ Status.WriteFault → (text : List ℕ) × (k : ℕ) × IsLines text × (k < length text) × Took (O.taken out.old) (take k text) (O.taken out.new) }
-    ensures basis_front { (d : ℕ) (limits : Limits) (s : ThinScript) → result ≡ Status.WriteFault → Asks (map string_bytes words.now) (S.left src.old) d limits s
-        → (text : List ℕ) × (k : ℕ) × IsBasisText s d text × (k < length text) × Took (O.taken out.old) (take k text) (O.taken out.new) }
+    ensures basis_front { (d : ℕ) (limits : Limits) (t : Tree) → result ≡ Status.WriteFault → Asks (map string_bytes words.now) (S.left src.old) d limits t
+        → (text : List ℕ) × (k : ℕ) × IsBasisText t d text × (k < length text) × Took (O.taken out.old) (take k text) (O.taken out.new) }
     ensures silent { ¬ Writes result → out.new ≡ out.old }
 {
     let request = match read_words(words) {
@@ -111,6 +115,7 @@ fn work<S: Source, O: Sink>(alloc: Global, words: &[String], src: &mut S, out: &
         Ok(text) => text,
         Err(Refusal::Memory) => return Status::Memory,
         Err(Refusal::Syntax(place)) => return Status::Syntax(place),
+        Err(Refusal::Input(fault)) => return Status::Input(fault),
         Err(Refusal::Bound(fault)) => return Status::Bound(fault),
     };
     match write_all(out, &text) {

@@ -1,8 +1,21 @@
-use Rattle.std.proofs.Common.{ap, Err}
-use Rattle.invring_app.specs.declared.fault.ReadError.{ReadError}
-use Rattle.invring_app.proofs.RefusalLaws.{syntax-from_read}
+use Rattle.std.proofs.Common.{ℕ, ◌<◌, ap, ap₂, subst, Err}
+use Rattle.finvar_text.specs.Syntax.{Script as Tree}
+use Rattle.invariant_space.specs.declared.fault.SpaceFault.{SpaceFault}
+use Rattle.invring_app.specs.declared.status.BoundFault.{BoundFault}
+use Rattle.invring_app.specs.declared.status.BoundFault.TheVariants.{TermBound}
+use Rattle.invring_app.specs.Outcomes.{IsTermBound}
+use Rattle.invring_app.specs.Scripts.{IsScriptText}
+use Rattle.invring_app.proofs.RefusalLaws.{bound-from_space}
+use Rattle.invring_app.proofs.ScriptLaws.{sound_read}
 use Rattle.invring_app.proofs.answer.answer.Goals as goal
 
-pub returns-in_err-script-clause-syntax : goal.returns-in_err-script-clause-syntax
-returns-in_err-script-clause-syntax c =
-    syntax-from_read c.in_err-script.field-0.0 c.from_residual.result _ c.from_residual.ensures.1 (λ e. c.in_err-script.ensures.only (ap (λ (x : ReadError). Err x) e))
+pub basis_text-requires-clause-sound : goal.basis_text-requires-clause-sound
+basis_text-requires-clause-sound c = sound_read c.args.bytes.now c.in_ok-script.script c.in_ok-script.ensures.script
+
+pub returns-in_err-text-clause-bound : goal.returns-in_err-text-clause-bound
+returns-in_err-text-clause-bound c = λ fault is.
+    let read = c.in_ok-script.ensures.script in
+    bound-from_space c.in_err-text.field-0.0 c.from_residual-in_err-text.result fault (λ (f : BoundFault). (t : Tree) × IsScriptText c.args.bytes.now t × IsTermBound f c.args.degree c.args.max_terms t) c.from_residual-in_err-text.ensures.1 is
+    (λ d count e.
+    let b = c.in_err-text.ensures.bound read.0 d count read.4 (ap (λ (x : SpaceFault). Err x) e) in
+    (read.0, (read.2, read.1, read.3), (ap₂ (λ (x y : ℕ). TermBound x y) b.0 b.1, subst (λ (n : ℕ). c.args.max_terms < n) b.1 b.2)))

@@ -1,17 +1,23 @@
-use Rattle.std.proofs.Common.{◌≡◌, ◌≤◌, ◌<◌, ℕ, List, length, take, sym, subst, ap, Err}
+use Rattle.std.proofs.Common.{◌≡◌, ◌≤◌, ◌<◌, ℕ, List, length, take, sym, subst, ap, refl, Err}
 use Rattle.inv_outside.specs.Outside.{Took}
 use Rattle.invring_app.specs.Bases.{IsBasisText}
 use Rattle.invring_app.specs.declared.answer.Refusal.{Refusal}
 use Rattle.invring_app.specs.declared.answer.Refusal.TheVariants as refusals
 use Rattle.invring_app.specs.Outcomes.{IsTermBound, count_of}
-use Rattle.invring_app.proofs.RunLaws.{read-is, read-no_text, read-some, asked-at, done-is, front-is}
+use Rattle.invring_app.proofs.RunLaws.{read-is, read-syntax, read-input, read-some, asked-at, done-is, front-is}
 use Rattle.invring_app.proofs.top_call.work.Goals as goal
 
 pub returns-in-Err-Syntax-clause-syntax : goal.returns-in-Err-Syntax-clause-syntax
 returns-in-Err-Syntax-clause-syntax g c = λ p is.
     let refusal : c.in-Err-Syntax.field-0 ≡ refusals.Syntax p = cc in
     let read = read-is _ _ _ _ c.deref.ensures.value c.in-Ok.ensures.gave c.in-Ok.ensures.end in
-    read-no_text _ _ _ read (c.in-Err-Syntax.ensures.syntax p (ap (λ (r : Refusal). Err r) refusal)).1
+    read-syntax _ _ _ p read (c.in-Err-Syntax.ensures.syntax p (ap (λ (r : Refusal). Err r) refusal))
+
+pub returns-in-Err-Input-clause-input : goal.returns-in-Err-Input-clause-input
+returns-in-Err-Input-clause-input g c = λ f is.
+    let refusal : c.in-Err-Input.field-0 ≡ refusals.Input f = cc in
+    let read = read-is _ _ _ _ c.deref.ensures.value c.in-Ok.ensures.gave c.in-Ok.ensures.end in
+    read-input _ _ _ f read (c.in-Err-Input.ensures.input f (ap (λ (r : Refusal). Err r) refusal))
 
 pub returns-in-Err-Bound-clause-bound : goal.returns-in-Err-Bound-clause-bound
 returns-in-Err-Bound-clause-bound g c = λ f d limits s is asks.
@@ -67,3 +73,13 @@ returns-clause-script g c = λ past.
 
 pub returns-clause-usage : goal.returns-clause-usage
 returns-clause-usage g c = (λ is. absurd cc, λ none. absurd (none c.in-Some.request c.in-Some.ensures.some))
+
+pub returns-in-Err-Bound-clause-script : goal.returns-in-Err-Bound-clause-script
+returns-in-Err-Bound-clause-script g c = λ past.
+    let refusal : c.in-Err-Bound.field-0 ≡ refusals.Bound c.in-Err-Bound.fault = cc in
+    let read = read-is _ _ _ _ c.deref.ensures.value c.in-Ok.ensures.gave c.in-Ok.ensures.end in
+    let met = c.in-Err-Bound.ensures.bound c.in-Err-Bound.fault (ap (λ (r : Refusal). Err r) refusal) in
+    read-some _ _ _ met.0 read met.1
+
+pub returns-clause-write : goal.returns-clause-write
+returns-clause-write g c = λ is. c.in-Err.ensures.cause refl
