@@ -1,5 +1,5 @@
-use crate::{BoundFault, Status, run};
-use alg_core::Place;
+use crate::{BoundFault, Status, run, write_error};
+use alg_core::{InputFault, Place};
 use inv_outside::{CleanSink, CleanSource, MemSink, MemSource};
 use std::alloc::{AllocError, Global};
 use std::test::Fail;
@@ -180,41 +180,96 @@ fn refuses_other_words(rt: HostRuntime) -> Result<(), Fail> {
 }
 
 #[test]
-fn refuses_near_misses(rt: HostRuntime) -> Result<(), Fail> {
-    let long = [b'\n'; 4097];
-    let table: [&[u8]; 27] = [
-        b"",
-        b"ring R=2,(x,y),dp;  matrix A[2][2]=0,1,1,0;",
-        b"ring R=2,(x,y),dp;matrix A[2][2]=0,1,1,0;",
-        b"ring R=2,(x,y),dp;\r\nmatrix A[2][2]=0,1,1,0;",
-        b"ring R=2,(x,y),dp; matrix A[2][2]=0,1,1,0;\n\n",
-        b"ring R=2,(x,y),dp; matrix A[2][2]=0,1,1,0; ",
-        b"ring R=2,(x,y),dp; matrix A[2][2]=0,1,1,0",
-        b"ring R=2,(x, y),dp; matrix A[2][2]=0,1,1,0;",
-        b"ring R=2,(xy),dp; matrix A[2][2]=0,1,1,0;",
-        b"ring R=2,(x,x),dp; matrix A[2][2]=0,1,1,0;",
-        b"ring R=2,(x,Y),dp; matrix A[2][2]=0,1,1,0;",
-        b"ring R=2,(x,y,),dp; matrix A[2][2]=0,1,1,0;",
-        b"ring R=2,(),dp; matrix A[0][0]=;",
-        b"ring R=2,(x,y),lp; matrix A[2][2]=0,1,1,0;",
-        b"ring R=02,(x,y),dp; matrix A[2][2]=0,1,1,0;",
-        b"ring R=4,(x,y),dp; matrix A[2][2]=0,1,1,0;",
-        b"ring R=4294967298,(x,y),dp; matrix A[2][2]=0,1,1,0;",
-        b"ring R=2,(x,y),dp; matrix A[3][3]=0,1,1,0;",
-        b"ring R=2,(x,y),dp; matrix A[2][02]=0,1,1,0;",
-        b"ring R=2,(x,y),dp; matrix A[2][2]=0,1,1;",
-        b"ring R=2,(x,y),dp; matrix A[2][2]=0,1,1,0,0;",
-        b"ring R=2,(x,y),dp; matrix A[2][2]=0,11,0;",
-        b"ring R=2,(x,y),dp; matrix A[2][2]=0,2,1,0;",
-        b"ring R=2,(x,y),dp; matrix A[2][2]=0,01,1,0;",
-        b"ring R=2,(x,y),dp; matrix A[2][2]=0,-1,1,0;",
-        b"ring R=2,(a,b,c,d,e,f,g,h,i),dp; matrix A[9][9]=0,1,1,0;",
-        &long,
+fn reads_whole_scripts(rt: HostRuntime) -> Result<(), Fail> {
+    let one =
+        b"LIB \"finvar.lib\"; // the library\nring R=3,(x,y),dp;\nmatrix A[2][2]=0,1,1,0; /* swap */\nmatrix B[2][2]=-1,0,0,-1;\nmatrix P,S,IS=invariant_ring(A);\nprint(P);\n";
+    let both =
+        b"ring R=3,(x,y),dp;matrix A[2][2]=0,1,1,0;matrix B[2][2]=-1,0,0,-1;matrix P,S,IS=invariant_ring(A,B);P;";
+    let all = b"ring R=3,(x,y),dp;\r\nmatrix A[2][2] = 3,1,\t4,0;\r\nmatrix B[2][2] = -1,0,0,2;";
+    let table: [(&str, &[u8], &[u8]); 5] = [
+        ("1", one, b"x+y\n"),
+        ("1", both, b""),
+        ("2", both, b"x^2+y^2\nx*y\n"),
+        ("1", all, b""),
+        ("2", all, b"x^2+y^2\nx*y\n"),
     ];
-    for script in table {
-        let (status, taken, _) = clean_run(rt.alloc(), &["basis", "1"], script)?;
-        assert_eq!(rt; status, Status::Syntax(Place::Byte(0)), "{script:?}");
+    for (degree, script, text) in table {
+        let (ended, taken, told) = clean_run(rt.alloc(), &["basis", degree], script)?;
+        assert_eq!(rt; ended, Status::Done, "{script:?}");
+        assert_eq!(rt; taken.as_slice(), text, "{script:?}");
+        assert!(rt; told.is_empty());
+    }
+    Ok(())
+}
+
+#[test]
+fn tells_faults_of_scripts(rt: HostRuntime) -> Result<(), Fail> {
+    let big = b"ring R=2,(x,y),dp; matrix A[2][2]=340282366920938463463374607431768211456,1,1,0;";
+    let nine = b"ring R=2,(a,b,c,d,e,f,g,h,i),dp; matrix A[9][9]=0,1,1,0;";
+    let table: [(&[u8], u8, &[u8]); 11] = [
+        (b"", 3, b"syntax place 0\n"),
+        (
+            b"ring R=2,(x,y),lp; matrix A[2][2]=0,1,1,0;",
+            3,
+            b"syntax place 15\n",
+        ),
+        (
+            b"ring R=2,(x,y),dp;\nmatrix A[2][2]=0,1,",
+            3,
+            b"syntax place 38\n",
+        ),
+        (big, 4, b"input number\n"),
+        (
+            b"ring R=4,(x,y),dp; matrix A[2][2]=0,1,1,0;",
+            4,
+            b"input field 4\n",
+        ),
+        (nine, 4, b"input variables 9\n"),
+        (
+            b"ring R=2,(x,x),dp; matrix A[2][2]=0,1,1,0;",
+            4,
+            b"input twice x\n",
+        ),
+        (
+            b"ring R=2,(x,y),dp; print(B); matrix A[2][2]=0,1,1,0;",
+            4,
+            b"input unknown B\n",
+        ),
+        (
+            b"ring R=2,(x,y),dp; matrix A[2][2]=0,1,1;",
+            4,
+            b"input size A\n",
+        ),
+        (b"ring R=2,(x,y),dp;", 4, b"input none\n"),
+        (
+            b"ring R=2,(x,y),dp; matrix A[2][2]=1,1,1,1;",
+            4,
+            b"input singular A\n",
+        ),
+    ];
+    for (script, code, line) in table {
+        let (status, taken, told) = clean_run(rt.alloc(), &["basis", "1"], script)?;
+        assert_eq!(rt; status.code(), code, "{script:?}");
+        assert_eq!(rt; told.as_slice(), line, "{script:?}");
         assert!(rt; taken.is_empty());
+    }
+    Ok(())
+}
+
+#[test]
+fn has_a_line_for_each_length_and_place(rt: HostRuntime) -> Result<(), Fail> {
+    let table: [(Status, &[u8]); 3] = [
+        (Status::Input(InputFault::Long), b"input long\n"),
+        (
+            Status::Syntax(Place::Byte(16777216)),
+            b"syntax place 16777216\n",
+        ),
+        (Status::Syntax(Place::Line(7)), b"syntax line 7\n"),
+    ];
+    for (status, line) in table {
+        let mut errors = CleanSink::new(rt.alloc(), 64).map_err(|_| AllocError)?;
+        assert!(rt; write_error(&mut errors, &status).is_ok());
+        assert_eq!(rt; errors.taken(), Some(line));
     }
     Ok(())
 }
@@ -277,6 +332,7 @@ fn has_an_exit_status_for_each_end(rt: HostRuntime) {
         (Status::Done, 0),
         (Status::Usage, 2),
         (Status::Syntax(Place::Byte(0)), 3),
+        (Status::Input(InputFault::NoMatrix), 4),
         (Status::Bound(over), 5),
         (Status::ReadFault, 6),
         (Status::WriteFault, 7),
