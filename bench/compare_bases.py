@@ -1,5 +1,5 @@
 #!/usr/bin/env python3
-"""Compares `basis D` on random matrices with a plain computation of its own: every monomial is
+"""Compares `basis D` on random invertible matrices with a plain computation of its own: every monomial is
 expanded, and the invariants are the kernel of the matrix of the substitution minus the identity.
 Outside the gate. usage: compare_bases.py [seed [cases]]"""
 import os
@@ -87,7 +87,11 @@ def expected(names, p, degree, matrix):
     return "".join(line(v, keys, names, p) for v in kernel(equations, len(keys), p))
 
 
-def random_matrix(n, p):
+def is_invertible(n, p, matrix):
+    return len(echelon([matrix[i * n:(i + 1) * n] for i in range(n)], n, p)) == n
+
+
+def any_matrix(n, p):
     order = random.sample(range(n), n)
     signs = [random.choice([1, p - 1]) for _ in range(n)]
     return random.choice([
@@ -96,6 +100,13 @@ def random_matrix(n, p):
         [signs[i] * int(order[i] == j) for i in range(n) for j in range(n)],
         [int(i == j) if j <= i else random.randrange(p) for i in range(n) for j in range(n)],
     ])
+
+
+def random_matrix(n, p):
+    while True:
+        matrix = any_matrix(n, p)
+        if is_invertible(n, p, matrix):
+            return matrix
 
 
 def main():

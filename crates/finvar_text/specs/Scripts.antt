@@ -1,10 +1,10 @@
 -- What the bytes of a script give.
 --
---   IsScriptOf t s        s has the characteristic, the variables and the generators of the script t, each generator an n by n matrix
---                         with the classes of its entries for cells, n the number of variables
---   IsInputFault bytes f  the bytes are more than 16777216 and f says so; or they are a text whose first faulty value has the fault f
---   IsScriptFault bytes f the bytes are at most 16777216 and their first syntax fault is where f says; or they have the input fault of f;
---                         or memory was refused
+--   IsScriptOf t s         s has the characteristic, the variables and the generators of the script t, each generator an n by n matrix
+--                          with the classes of its entries for cells, n the number of variables
+--   IsInputFault bytes f   the bytes are more than 16777216 and f says so; or they are a text whose first faulty value has the fault f
+--   IsScriptFault bytes f  the bytes are at most 16777216 and their first syntax fault is where f says; or they have the input fault of
+--                          f; or memory was refused
 use Rattle.std.specs.Prelude.{◌≡◌, ◌⊎◌, ℕ, ◌<◌, ◌≤◌, List, length, map, Some}
 use Rattle.alg_core.specs.declared.input_fault.InputFault.{InputFault}
 use Rattle.alg_core.specs.declared.input_fault.InputFault.TheVariants as faults

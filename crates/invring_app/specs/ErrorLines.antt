@@ -1,7 +1,7 @@
 -- The line that the error stream gets.
 --
 --   line_of pieces       the pieces, one after another, and a newline
---   input_pieces fault   what is told of an input
+--   input_pieces fault   what the line of a faulty input has before its newline, in pieces
 --   error_line status    the line of a status; nothing where the run is done
 use Rattle.std.specs.Prelude.{ℕ, List, [], ◌∷◌, ◌++◌, codes, decimal}
 use Rattle.alg_core.specs.declared.input_fault.InputFault.{InputFault}

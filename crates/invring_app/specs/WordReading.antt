@@ -1,5 +1,6 @@
 -- Reading the words of a command from the left, or None where they are none.
 --
+--   o >>= f               what f makes of the value of o, None where there is none
 --   given_at g a          what was given for the argument a
 --   with_given g a v      the same with v for a
 --   nothing_given         no argument has a value
