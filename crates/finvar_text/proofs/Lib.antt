@@ -9,3 +9,4 @@ pub mod Completeness
 pub mod Scans
 pub mod ScanSteps
 pub mod NumberSteps
+pub mod DeclarationSteps

@@ -1,8 +1,9 @@
 -- What the syntax tree of the program stands for.
 --
---   bytes_of ws                     the bytes of the words
+--   bytes_of ws, word_of o          the bytes of the words, and of a word, where there is one
 --   entry_of e, entries_of es, matrix_of m, call_of c, item_of i, items_of is, script_of s   the entry, the matrix, the call, the item, the script
-use Rattle.std.specs.Prelude.{ℕ, List, map}
+use Rattle.std.specs.Prelude.{ℕ, List, map, Option}
+use Rattle.std.specs.Option.{option_map}
 use Rattle.std.specs.Borrow.{Bor}
 use Rattle.finvar_text.specs.declared.syntax.EntryText.{EntryText}
 use Rattle.finvar_text.specs.declared.syntax.MatrixText.{MatrixText}
@@ -45,3 +46,6 @@ script_of s = record {
   variables = bytes_of s.variables.items;
   items = items_of s.items.items;
 }
+
+abbrev pub word_of : Option (Bor (List ℕ)) → Option (List ℕ)
+word_of o = option_map (λ (w : Bor (List ℕ)). w.now) o

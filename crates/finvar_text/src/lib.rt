@@ -8,5 +8,6 @@ mod scan_tokens;
 mod scan_words;
 mod syntax;
 mod values;
+mod values_names;
 
 pub use laws::trees_of_texts;
