@@ -10,3 +10,4 @@ pub mod Scans
 pub mod ScanSteps
 pub mod NumberSteps
 pub mod DeclarationSteps
+pub mod MatrixSteps

@@ -8,6 +8,7 @@ mod scan_tokens;
 mod scan_words;
 mod syntax;
 mod values;
+mod values_matrices;
 mod values_names;
 
 pub use laws::trees_of_texts;
