@@ -1,14 +1,20 @@
 -- Reading the tokens of a script one by one: what was read so far, and which tokens may follow.
 --
---   Opening, Matrix, Call, Printing, Body   what was read last up to the ring, of a matrix, of a call, of a print, and after the ring
---   State                   the strings of the libs before the ring and what follows them; or the script so far, whether a call
---                           is among its items, and what follows
+--   Opening, Matrix, Call, Printing, Body   what was read last up to the ring's end, of a matrix after its `[`, of a call after its first name, of a
+--                           print, and after the ring
+--   State                   the strings of the libs before the ring, and what was read last; or the script so far, whether a call is among its
+--                           items, and what was read last
 --   start                   nothing is read yet
 --   symbol c b s, keyword k w s, named w s   the state s where the symbol b is c, where the word w is k, where it is no reserved word
---   next_symbol, next_word, next_number, next_text, next   the state after one token more; None where it may not follow
+--   with_item s i           the script with one item more
+--   opening_symbol, matrix_symbol, call_symbol, print_symbol, body_symbol, next_symbol   the state after a symbol more, in each part and in any;
+--                           None where it may not follow
+--   opening_word, call_word, printing_word, body_word, next_word, matrix_number, opening_number, body_number, next_number, opening_text,
+--   body_text, next_text, next   the same after a word, a number, a string, any token
 --   takes_number, takes_text   whether a number or a string may follow
 --   begins w k              the word k begins with w
---   word_front s w          some word that may follow begins with w, which is a letter and name bytes
+--   opening_front, call_front, print_front, body_front, word_front s w   some word that may follow begins with w, which is a letter and
+--                           bytes of names
 --   parse s ts              the state after these tokens
 --   whole s                 the script, where it may end here
 use Rattle.std.specs.Prelude.{ℕ, Bool, true, false, ◌&&◌, ◌||◌, ◌==◌, List, [], ◌∷◌, ◌++◌, codes, Option, Some, None, if◌then◌else◌}

@@ -2,7 +2,8 @@
 --
 --   Mode            what the last bytes belong to: nothing that is open; a `/`; a comment to the end of its line; one between `/*` and `*/`, with whether
 --                   a `*` was just read; a word, a number, or a string, of which these bytes are read
---   Scan            the tokens that were read whole, by the state after them, and the mode
+--   Scan, at        the tokens that were read whole, by the state after them, and the mode
+--   start_scan      nothing is read yet
 --   between, in_slash, in_block, in_word, in_number, in_text, step   after one byte more, where nothing is open, in the modes that their names tell, and in
 --                   any mode; None where the byte may not follow
 --   scan s bytes    after these bytes

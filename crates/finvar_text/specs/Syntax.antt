@@ -3,23 +3,33 @@
 --   Entry, Matrix, Call, Item, Script   the tree; numbers are kept as their digits
 --   Token                  a word (a name or a reserved word), a number, a string (its bytes between the quotes), or a symbol
 --   lib_word, ring_word, matrix_word, print_word, invariant_ring_word, dp_word   the reserved words
---   comma, semicolon, equals, minus, opens, closes, opens_square, closes_square   the symbols
---   listed f xs            the tokens f x of each x of xs, with a comma between each two
---   lib_tokens, ring_tokens, matrix_tokens, call_tokens, print_tokens, item_tokens, tokens   the tokens of each part, and of a script
---   IsNumber w             digits, at least one
---   IsString w             bytes other than `"` and the newline
---   IsEntry, IsMatrix, IsCall, IsItem   names are names, numbers are numbers, strings are strings; the lists of entries and arguments are not empty
+--   comma, semicolon, equals, minus, opens, closes, opens_square, closes_square   the symbols `,` `;` `=` `-` `(` `)` `[` `]`
+--   further f xs, listed f xs   the tokens f x of each x of xs, each after a comma, and with a comma between each two
+--   joined f xs            the tokens f x of each x of xs, one after another
+--   word_tokens, lib_tokens, entry_tokens, matrix_tokens, call_tokens, print_tokens, item_tokens, variables_tokens, ring_tokens, tokens
+--                          the tokens of each part, and of a script
+--   matrix_head, call_head, ring_head   those of a matrix up to its entries, of a call up to its arguments, of the ring up to its variables
+--   IsName w               a name
+--   is_number w, IsNumber w   digits, at least one
+--   is_string_byte b, IsString w   a byte other than `"` and the newline; such bytes
+--   IsSome xs              there is one at least
+--   IsEntry, IsMatrix, IsCall, IsItem   names are names, numbers are numbers, strings are strings; there is an entry, and an argument
 --   calls is               how many of the items are calls
 --   IsScript s             each part is as it should be, there is one variable at least, and just one where there are no parentheses; and
 --                          there is at most one call
 --   Lexeme                 a blank, a comment to the end of its line, a comment between `/*` and `*/`, or a token
---   lexeme_bytes l, spelling ls   the bytes of a lexeme and of a list of them
---   IsLexeme l             no newline is in a comment to the end of its line, and no `*/` in one between `/*` and `*/`; words are letters, digits and
---                          underscores that begin with a letter; numbers are numbers and strings are strings
+--   token_bytes t, lexeme_bytes l, spelling ls   the bytes of a token, of a lexeme, and of a list of them, one after another
 --   tokens_of l, tokens_in ls   the tokens of a lexeme, and among the lexemes
---   Side, side l           what may follow: after a comment to the end of its line only a newline, after a word or a number neither of these
---   AreJoined p ls         lexemes that may follow each other, after what p tells of
---   IsSpelled ts bytes     the bytes are lexemes that follow each other, and the tokens among them are ts
+--   is_blank b             space, tab, newline, carriage return
+--   is_word w              a letter followed by letters, digits and underscores
+--   is_open star bs        no `*/` is in the bytes, before which a `*` stands if star
+--   IsToken t              words are words, numbers are numbers, strings are strings
+--   IsLexeme l             blanks are blanks, no newline is in a comment to the end of its line and no `*/` in one between `/*` and `*/`, and
+--                          tokens are tokens
+--   Side, token_side t, side l   what a lexeme asks of the next one: nothing; that it is no word and no number; that it is a newline
+--   is_solid p, is_newline l, may_follow p l, IsNext p l   the lexeme may stand after what asks p
+--   AreJoined p ls         lexemes each of which may follow the one before, the first after what asks p
+--   IsSpelled ts bytes     the bytes are lexemes each of which may follow the one before, and the tokens among them are ts
 --   IsText s bytes         the bytes spell the tokens of the script s
 --   IsFront bytes          the bytes begin some text
 --   IsFirstFault bytes n   the bytes are no text, and the longest front among their beginnings has the length n
@@ -262,7 +272,6 @@ abbrev pub tokens_in : List Lexeme → List Token
 tokens_in [] = []
 tokens_in (l ∷ ls) = tokens_of l ++ tokens_in ls
 
--- space, tab, newline, carriage return
 abbrev pub is_blank : ℕ → Bool
 is_blank b = b == 32 || (b == 9 || (b == 10 || b == 13))
 
@@ -287,6 +296,7 @@ IsLexeme (LineComment bs) = IsTrue (list_all (λ b. not (b == 10)) bs)
 IsLexeme (BlockComment bs) = IsTrue (is_open false bs)
 IsLexeme (Proper t) = IsToken t
 
+-- Solid after a word or a number, Commented after a comment to the end of its line
 pub data Side : Type 0 where
   Clear : Side
   Solid : Side

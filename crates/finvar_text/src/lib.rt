@@ -4,6 +4,8 @@
 mod laws;
 mod scan;
 mod scan_symbols;
+#[cfg(test)]
+mod scan_tests;
 mod scan_tokens;
 mod scan_words;
 mod syntax;

@@ -1,14 +1,14 @@
 //! The syntax tree of a script, byte by byte.
 
 ghost use Rattle.std.specs.Prelude.{◌≡◌, ◌<◌, ◌≤◌, ◌+◌, ◌-◌, ℕ, List, [], ◌∷◌, take, drop, length, slice_index, OnOk, IfOk, IfErr, Some, None, if◌then◌else◌};
-ghost use Rattle.alg_core.specs.Names.{is_letter, is_name_byte};
+ghost use Rattle.alg_core.specs.Names.{is_name_byte};
 ghost use Rattle.finvar_text.specs.declared.scan.Mode.TheVariants as modes;
 ghost use Rattle.finvar_text.specs.Syntax.{IsText, is_blank};
 ghost use Rattle.finvar_text.specs.Trees.{script_of};
 ghost use Rattle.finvar_text.specs.Parsers.{state_of, Takes, Finishes};
 ghost use Rattle.finvar_text.specs.Grammar.{takes_text, takes_number, word_front};
-ghost use Rattle.finvar_text.specs.Scanning.{start_scan, at, InText, InWord, InNumber, between, in_slash, in_block, in_word, in_number, in_text, step, finish};
-ghost use Rattle.finvar_text.specs.Scanners.{mode_of, scan_of, IsOrdered, fault_at, IsSyntaxFault};
+ghost use Rattle.finvar_text.specs.Scanning.{start_scan, at, InText, InWord, InNumber, between, in_slash, in_word, in_number, in_text, step, finish};
+ghost use Rattle.finvar_text.specs.Scanners.{scan_of, IsOrdered, fault_at, IsSyntaxFault};
 
 use crate::scan_tokens::{Parser, ScanError};
 use crate::syntax::ScriptText;
@@ -91,7 +91,7 @@ impl<'a> Scanner<'a> {
             return self.open_word(text, place);
         }
         if byte.is_ascii_digit() {
-            return self.open_number(text, place);
+            return self.open_number(place);
         }
         self.parser.take_symbol(alloc, byte)?;
         self.mode = Mode::Between;
@@ -123,13 +123,11 @@ impl<'a> Scanner<'a> {
         Ok(())
     }
 
-    /// Opens a number.
-    fn open_number(&mut self, text: &[u8], place: usize) -> Result<(), ScanError>
-        requires within { place < length text.now }
-        ensures is { Takes result (scan_of text.now (place + 1) self.new) (if takes_number (state_of self.old.parser) then Some (at (state_of self.old.parser) (InNumber (slice_index text.now place ∷ []))) else None) }
+    /// Opens a number, whose first digit stands at the place.
+    fn open_number(&mut self, place: usize) -> Result<(), ScanError>
+        ensures is { (text : List ℕ) → place < length text → Takes result (scan_of text (place + 1) self.new) (if takes_number (state_of self.old.parser) then Some (at (state_of self.old.parser) (InNumber (slice_index text place ∷ []))) else None) }
         ensures ordered { OnOk result (IsOrdered (place + 1) self.new) }
     {
-        let _byte = text[place];
         if !self.parser.takes_number() {
             return Err(ScanError::Unexpected);
         }

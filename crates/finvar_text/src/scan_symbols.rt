@@ -1,14 +1,11 @@
 //! The symbols of a script.
 
-ghost use Rattle.std.specs.Prelude.{◌≡◌, ◌∷◌, ◌++◌, ℕ, List, [], true, false, Some, IfOk, ◌==◌};
-ghost use Rattle.alg_core.specs.Names.{is_reserved};
-ghost use Rattle.finvar_text.specs.declared.scan_tokens.ScanError.TheVariants as errors;
-ghost use Rattle.finvar_text.specs.declared.scan_tokens.Position.TheVariants as positions;
+ghost use Rattle.std.specs.Prelude.{true};
 ghost use Rattle.finvar_text.specs.declared.scan_tokens.OpeningPosition.TheVariants as openings;
 ghost use Rattle.finvar_text.specs.Syntax.{Declared, Called};
 ghost use Rattle.finvar_text.specs.Trees.{bytes_of, entries_of, script_of};
-ghost use Rattle.finvar_text.specs.Grammar.{start, symbol, keyword, named, with_item, MatrixNamed, next_symbol, body_symbol, opening_symbol, matrix_symbol, call_symbol, print_symbol, next_word, body_word, opening_word, call_word, printing_word, next_number, matrix_number, next_text, begins, word_front, takes_number, takes_text, Before, After, Items};
-ghost use Rattle.finvar_text.specs.Parsers.{state_of, opening_of, matrix_of, call_of, print_of, Takes, Expects};
+ghost use Rattle.finvar_text.specs.Grammar.{symbol, with_item, MatrixNamed, next_symbol, body_symbol, opening_symbol, matrix_symbol, call_symbol, print_symbol, After, Items};
+ghost use Rattle.finvar_text.specs.Parsers.{state_of, opening_of, matrix_of, call_of, print_of, Takes};
 
 use crate::scan_tokens::{
     CallPosition, MatrixPosition, OpeningPosition, Parser, Position, PrintPosition, ScanError,
@@ -48,12 +45,7 @@ impl<'a> Parser<'a> {
                 self.script.variables = Vec::new(alloc);
                 OpeningPosition::Variable
             }
-            OpeningPosition::VariableEnd if byte == b',' => OpeningPosition::Variable,
-            OpeningPosition::VariableEnd => {
-                expect_symbol(byte, b')')?;
-                self.script.in_parentheses = true;
-                OpeningPosition::VariablesEnd
-            }
+            OpeningPosition::VariableEnd => return self.after_variable(byte),
             OpeningPosition::VariablesEnd => {
                 expect_symbol(byte, b',')?;
                 OpeningPosition::Order
@@ -62,6 +54,21 @@ impl<'a> Parser<'a> {
             _ => return Err(ScanError::Unexpected),
         };
         self.position = Position::Opening(next);
+        Ok(())
+    }
+
+    /// Takes the symbol after a variable in parentheses.
+    #[tactic(auto, unfolding(crate::specs::Grammar::opening_symbol))]
+    fn after_variable(&mut self, byte: u8) -> Result<(), ScanError>
+        ensures is { Takes result (state_of self.new) (opening_symbol (bytes_of self.old.script.libs.items) (opening_of self.old openings.VariableEnd) byte) }
+    {
+        if byte == b',' {
+            self.position = Position::Opening(OpeningPosition::Variable);
+            return Ok(());
+        }
+        expect_symbol(byte, b')')?;
+        self.script.in_parentheses = true;
+        self.position = Position::Opening(OpeningPosition::VariablesEnd);
         Ok(())
     }
 

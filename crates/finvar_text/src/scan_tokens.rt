@@ -1,14 +1,10 @@
 //! The syntax tree of a script, token by token.
 
-ghost use Rattle.std.specs.Prelude.{◌≡◌, ◌∷◌, ◌++◌, ℕ, List, [], true, false, Some, IfOk, ◌==◌};
+ghost use Rattle.std.specs.Prelude.{◌≡◌};
 ghost use Rattle.alg_core.specs.Names.{is_reserved};
 ghost use Rattle.finvar_text.specs.declared.scan_tokens.ScanError.TheVariants as errors;
-ghost use Rattle.finvar_text.specs.declared.scan_tokens.Position.TheVariants as positions;
-ghost use Rattle.finvar_text.specs.declared.scan_tokens.OpeningPosition.TheVariants as openings;
-ghost use Rattle.finvar_text.specs.Syntax.{Declared, Called};
-ghost use Rattle.finvar_text.specs.Trees.{bytes_of, entries_of, script_of};
-ghost use Rattle.finvar_text.specs.Grammar.{start, symbol, keyword, named, with_item, MatrixNamed, next_symbol, body_symbol, opening_symbol, matrix_symbol, call_symbol, print_symbol, next_word, body_word, opening_word, call_word, printing_word, next_number, matrix_number, next_text, begins, word_front, takes_number, takes_text, whole, Before, After, Items};
-ghost use Rattle.finvar_text.specs.Parsers.{state_of, opening_of, matrix_of, call_of, print_of, Takes, Expects, Finishes};
+ghost use Rattle.finvar_text.specs.Grammar.{start, symbol, keyword, named, begins, word_front, takes_number, takes_text, whole};
+ghost use Rattle.finvar_text.specs.Parsers.{state_of, Expects, Finishes};
 
 use crate::syntax::{EntryText, ScriptText};
 use alg_core::Memory;

@@ -1,14 +1,8 @@
 //! The words, numbers and strings of a script.
 
-ghost use Rattle.std.specs.Prelude.{◌≡◌, ◌∷◌, ◌++◌, ℕ, List, [], true, false, Some, IfOk, ◌==◌};
-ghost use Rattle.alg_core.specs.Names.{is_reserved};
-ghost use Rattle.finvar_text.specs.declared.scan_tokens.ScanError.TheVariants as errors;
-ghost use Rattle.finvar_text.specs.declared.scan_tokens.Position.TheVariants as positions;
-ghost use Rattle.finvar_text.specs.declared.scan_tokens.OpeningPosition.TheVariants as openings;
-ghost use Rattle.finvar_text.specs.Syntax.{Declared, Called};
-ghost use Rattle.finvar_text.specs.Trees.{bytes_of, entries_of, script_of};
-ghost use Rattle.finvar_text.specs.Grammar.{start, symbol, keyword, named, with_item, MatrixNamed, next_symbol, body_symbol, opening_symbol, matrix_symbol, call_symbol, print_symbol, next_word, body_word, opening_word, call_word, printing_word, next_number, matrix_number, next_text, begins, word_front, takes_number, takes_text, Before, After, Items};
-ghost use Rattle.finvar_text.specs.Parsers.{state_of, opening_of, matrix_of, call_of, print_of, Takes, Expects};
+ghost use Rattle.finvar_text.specs.Trees.{bytes_of, script_of};
+ghost use Rattle.finvar_text.specs.Grammar.{next_word, body_word, opening_word, call_word, next_number, matrix_number, next_text, Items};
+ghost use Rattle.finvar_text.specs.Parsers.{state_of, opening_of, matrix_of, call_of, Takes};
 
 use crate::scan_tokens::{
     CallPosition, MatrixPosition, OpeningPosition, Parser, Position, PrintPosition, ScanError,
