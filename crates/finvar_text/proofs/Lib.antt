@@ -11,3 +11,4 @@ pub mod ScanSteps
 pub mod NumberSteps
 pub mod DeclarationSteps
 pub mod MatrixSteps
+pub mod GeneratorSteps

@@ -1,6 +1,7 @@
 //! Scripts: which bytes are one, the tree of each, and the first place where others fail.
 #![tactic(auto)]
 
+mod fault;
 mod laws;
 mod scan;
 mod scan_symbols;
@@ -10,7 +11,9 @@ mod scan_tokens;
 mod scan_words;
 mod syntax;
 mod values;
+mod values_generators;
 mod values_matrices;
 mod values_names;
 
+pub use fault::ScriptFault;
 pub use laws::trees_of_texts;
