@@ -12,3 +12,4 @@ pub mod NumberSteps
 pub mod DeclarationSteps
 pub mod MatrixSteps
 pub mod GeneratorSteps
+pub mod SingularSteps

@@ -9,6 +9,7 @@ mod scan_symbols;
 mod scan_tests;
 mod scan_tokens;
 mod scan_words;
+mod script;
 mod syntax;
 mod values;
 mod values_generators;
