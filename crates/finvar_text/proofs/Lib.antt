@@ -9,3 +9,7 @@ pub mod Completeness
 pub mod Scans
 pub mod ScanSteps
 pub mod NumberSteps
+pub mod DeclarationSteps
+pub mod MatrixSteps
+pub mod GeneratorSteps
+pub mod SingularSteps

@@ -15,7 +15,7 @@
 --   first_unknown ms ws is  the same of items, each of which may use what those before it declare
 --   has_size n m            whether the matrix has n rows, n columns and n · n entries
 --   first_misfit n ms       the name of the first matrix that does not have this size
---   named ms w              the matrix of this name
+--   named ms w              the matrix of this name; where several have it, the last
 --   the_call is             the call, where there is one
 --   select ms ws            the matrices of these names
 --   generators s            the matrices that the call names, in its order; all of them where there is no call
@@ -112,7 +112,7 @@ first_misfit n (m ∷ ms) = if has_size n m then first_misfit n ms else Some m.n
 
 abbrev pub named : List Matrix → List ℕ → Option Matrix
 named [] w = None
-named (m ∷ ms) w = if bytes_eq m.name w then Some m else named ms w
+named (m ∷ ms) w = option_or (named ms w) (if bytes_eq m.name w then Some m else None)
 
 abbrev pub the_call : List Item → Option Call
 the_call [] = None

@@ -1,8 +1,9 @@
 pub mod Syntax
 pub mod Trees
 pub mod Conditions
+pub mod Declarations
+pub mod Scripts
 pub mod Grammar
 pub mod Scanning
 pub mod Parsers
 pub mod Scanners
-pub mod Scripts

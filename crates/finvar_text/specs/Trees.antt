@@ -1,8 +1,10 @@
 -- What the syntax tree of the program stands for.
 --
---   bytes_of ws                     the bytes of the words
+--   bytes_of ws, word_of o          the bytes of the words, and of a word, where there is one
+--   matrices_at ms, call_at o       the matrices, and the call, that are referred to
 --   entry_of e, entries_of es, matrix_of m, call_of c, item_of i, items_of is, script_of s   the entry, the matrix, the call, the item, the script
-use Rattle.std.specs.Prelude.{ℕ, List, map}
+use Rattle.std.specs.Prelude.{ℕ, List, map, Option}
+use Rattle.std.specs.Option.{option_map}
 use Rattle.std.specs.Borrow.{Bor}
 use Rattle.finvar_text.specs.declared.syntax.EntryText.{EntryText}
 use Rattle.finvar_text.specs.declared.syntax.MatrixText.{MatrixText}
@@ -45,3 +47,12 @@ script_of s = record {
   variables = bytes_of s.variables.items;
   items = items_of s.items.items;
 }
+
+abbrev pub word_of : Option (Bor (List ℕ)) → Option (List ℕ)
+word_of o = option_map (λ (w : Bor (List ℕ)). w.now) o
+
+abbrev pub matrices_at : List (Bor MatrixText) → List Matrix
+matrices_at ms = map (λ (m : Bor MatrixText). matrix_of m.now) ms
+
+abbrev pub call_at : Option (Bor CallText) → Option Call
+call_at o = option_map (λ (c : Bor CallText). call_of c.now) o

@@ -1,12 +1,39 @@
-use alg_core::InputFault;
+ghost use Rattle.std.specs.Prelude.{◌≡◌};
+ghost use Rattle.finvar_text.specs.declared.fault.ScriptFault.TheVariants as faults;
 
-/// Why the bytes give no script. Of several faults the first one of this order is told.
-#[derive(Debug, Drop, PartialEq, Eq)]
+use alg_core::{InputFault, Memory};
+use std::alloc::{AllocError, AllocFailed};
+
+/// Why a script was not read.
+#[derive(Debug, Drop)]
 pub enum ScriptFault {
-    /// The bytes are a text of no script: the first of them that leaves the grammar, from 0.
+    /// It is none of the grammar: the longest of its beginnings with which some script begins has `place` bytes.
     Syntax { place: u64 },
-    /// The bytes are too many, or the script has a faulty value.
+    /// The first of the conditions on its values that it fails.
     Input(InputFault),
-    /// Memory was refused.
     Memory,
+}
+
+impl From<Memory> for ScriptFault {
+    ghost from_gives = { λ _ e. e ≡ faults.Memory };
+
+    fn from(_: Memory) -> ScriptFault {
+        ScriptFault::Memory
+    }
+}
+
+impl From<AllocError> for ScriptFault {
+    ghost from_gives = { λ _ e. e ≡ faults.Memory };
+
+    fn from(_: AllocError) -> ScriptFault {
+        ScriptFault::Memory
+    }
+}
+
+impl<T: Drop> From<AllocFailed<T>> for ScriptFault {
+    ghost from_gives = { λ _ e. e ≡ faults.Memory };
+
+    fn from(_: AllocFailed<T>) -> ScriptFault {
+        ScriptFault::Memory
+    }
 }

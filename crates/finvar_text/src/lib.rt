@@ -13,6 +13,9 @@ mod scan_words;
 mod script;
 mod syntax;
 mod values;
+mod values_generators;
+mod values_matrices;
+mod values_names;
 
 pub use fault::ScriptFault;
 pub use laws::trees_of_texts;

@@ -1,5 +1,19 @@
-use alg_core::Name;
+//! The script that a tree stands for, or the first fault of its values.
+
+ghost use Rattle.std.specs.Prelude.{◌≡◌, IfErr, IfOk, IfSome, None, Some, length, map, All};
+ghost use Rattle.finvar_text.specs.Conditions.{first_of, value_conditions, FirstSingular, first_misfit, generators, matrices};
+ghost use Rattle.finvar_text.specs.Scripts.{generator, sized_cells, IsInvertible, IsSingularFault};
+ghost use Rattle.finvar_text.specs.Syntax.{IsScript};
+ghost use Rattle.finvar_text.specs.Trees.{script_of};
+
+use crate::fault::ScriptFault;
+use crate::syntax::ScriptText;
+use crate::values_generators::invertible_over;
+use crate::values_matrices::generators;
+use alg_core::{Field, InputFault, Memory, Name};
 use lin_algebra::Matrix;
+use prime_field::PrimeField;
+use std::alloc::Global;
 
 /// What a script tells: a characteristic, the names of the variables, and the generators of a
 /// group, each a matrix with a row and a column for each variable.
@@ -8,4 +22,33 @@ pub struct Script {
     pub characteristic: u32,
     pub names: Vec<Name>,
     pub gens: Vec<Matrix<u16>>,
+}
+
+/// The generators over the field, or the first that has no inverse.
+fn gens_over(
+    alloc: Global,
+    field: &PrimeField,
+    script: &ScriptText,
+) -> Result<Vec<Matrix<u16>>, ScriptFault>
+    requires script { IsScript (script_of script.now) }
+    requires sizes { let s = script_of script.now in first_misfit (length s.variables) (matrices s) ≡ None }
+    ensures gens { let s = script_of script.now in let p = (⟦<PrimeField as Field>⟧.field field.now).characteristic in IfOk result (λ gs. map sized_cells gs.items ≡ map (generator p (length s.variables)) (generators s)) }
+    ensures invertible { let p = (⟦<PrimeField as Field>⟧.field field.now).characteristic in IfOk result (λ gs. All (IsInvertible p) gs.items) }
+    ensures none { let s = script_of script.now in let p = (⟦<PrimeField as Field>⟧.field field.now).characteristic in IfOk result (λ gs. FirstSingular p (length s.variables) (generators s) None) }
+    ensures fault { let s = script_of script.now in let p = (⟦<PrimeField as Field>⟧.field field.now).characteristic in IfErr result (IsSingularFault p (length s.variables) (generators s)) }
+{
+    let n = script.variables.len() as u64;
+    let generators = generators(alloc, script)?;
+    let mut gens = Vec::new(alloc);
+    for i in 0..generators.len() {
+        let generator = generators[i];
+        match invertible_over(alloc, field, n, generator)? {
+            Some(over) => gens.push(over)?,
+            None => {
+                let name = Name::new(alloc, generator.name)?;
+                return Err(ScriptFault::Input(InputFault::Singular { name }));
+            }
+        }
+    }
+    Ok(gens)
 }

@@ -50,11 +50,12 @@ no_misfit n (m ∷ ms) e = go (has_size n m) refl e (no_misfit n ms)
 -- what holds of each matrix holds of each generator
 named_all : (P : Matrix → Type 0) (ms : List Matrix) (w : List ℕ) (rest : List Matrix) → All P ms → All P rest → All P (put_first (named ms w) rest)
 named_all P [] w rest h r = r
-named_all P (m ∷ ms) w rest h r = go (bytes_eq m.name w) (named_all P ms w rest (All-tail P m ms h) r)
+named_all P (m ∷ ms) w rest h r = go (named ms w) (bytes_eq m.name w) (named_all P ms w rest (All-tail P m ms h) r)
   where
-    go : (b : Bool) → All P (put_first (named ms w) rest) → All P (put_first (if b then Some m else named ms w) rest)
-    go true more = All-cons P m rest (All-head P m ms h) r
-    go false more = more
+    go : (o : Option Matrix) (b : Bool) → All P (put_first o rest) → All P (put_first (option_or o (if b then Some m else None)) rest)
+    go None true more = All-cons P m rest (All-head P m ms h) r
+    go None false more = more
+    go (Some x) b more = more
 
 select_all : (P : Matrix → Type 0) (ms : List Matrix) (ws : List (List ℕ)) → All P ms → All P (select ms ws)
 select_all P ms [] h = All-nil P

@@ -1,0 +1,99 @@
+-- The generators have the size that is wanted and names, and the first of them that has no inverse.
+use Rattle.std.proofs.Common.{◌≡◌, ◌∙◌, ℕ, ◌+◌, ◌*◌, ◌<◌, ◌≤◌, Bool, true, false, ◌&&◌, ◌==◌, List, [], ◌∷◌, ◌++◌, length, take, drop, map, get_or, Option, Some, None, cond, sym, ap, subst, refl, inl, inr, arith}
+use Rattle.std.specs.Prelude.{All, IfSome, IsTrue}
+use Rattle.std.specs.Borrow.{Bor}
+use Rattle.std.specs.List.{flat_map}
+use Rattle.std.specs.Option.{option_or}
+use Rattle.std.specs.Str.{bytes_eq}
+use Rattle.std.proofs.lemmas.Bool.Decides.{nat_tests}
+use Rattle.std.proofs.lemmas.List.{get_or-map, length-map, drop_more, drop_all, take_more, map-append}
+use Rattle.std.proofs.lemmas.List.Elements.{All-nil, All-cons, All-tail}
+use Rattle.alg_core.specs.declared.input_fault.InputFault.{InputFault}
+use Rattle.alg_core.specs.declared.input_fault.InputFault.TheVariants as faults
+use Rattle.finvar_text.specs.declared.syntax.MatrixText.{MatrixText}
+use Rattle.finvar_text.specs.Conditions.{value, cells, has_size, first_misfit, matrices_of, matrices, named, put_first, select, generators, generators_by, the_call, HasInverse, FirstSingular}
+use Rattle.finvar_text.specs.Scripts.{generator}
+use Rattle.finvar_text.specs.Syntax.{Call, Item, Lib, Declared, Printed, Called, Matrix, Script, IsItem, IsName, IsScript}
+use Rattle.finvar_text.specs.Trees.{matrix_of, matrices_at}
+
+-- the name is one, and the size is that wanted
+pub record IsGood (n : ℕ) (m : Matrix) : Type 0 where
+  pub name : IsName m.name
+  pub size : has_size n m ≡ true
+
+passes : {A : Type 0} (b : Bool) (o : Option A) (x : A) → cond b o (Some x) ≡ None → (b ≡ true) × (o ≡ None)
+passes true o x h = (refl, h)
+passes false o x h = absurd cc
+
+good_matrices : (n : ℕ) (is : List Item) → All IsItem is → first_misfit n (flat_map matrices_of is) ≡ None → All (IsGood n) (flat_map matrices_of is)
+good_matrices n [] all h = All-nil (IsGood n)
+good_matrices n (Lib w ∷ is) all h = good_matrices n is (All-tail IsItem (Lib w) is all) h
+good_matrices n (Declared m ∷ is) all h =
+    let p = passes (has_size n m) (first_misfit n (flat_map matrices_of is)) m.name h in
+    All-cons (IsGood n) m (flat_map matrices_of is) (record { name = (all 0 (Declared m) (omega arith)).name; size = p.0 }) (good_matrices n is (All-tail IsItem (Declared m) is all) p.1)
+good_matrices n (Printed name word ∷ is) all h = good_matrices n is (All-tail IsItem (Printed name word) is all) h
+good_matrices n (Called c ∷ is) all h = good_matrices n is (All-tail IsItem (Called c) is all) h
+
+module _ (P : Matrix → Type 0) where
+  either : (o p : Option Matrix) → IfSome o P → IfSome p P → IfSome (option_or o p) P
+  either None p h k = k
+  either (Some m) p h k = h
+
+  where_true : (b : Bool) (m : Matrix) → P m → IfSome (cond b (Some m) None) P
+  where_true true m h = h
+  where_true false m h = tt
+
+  named_has : (ms : List Matrix) (w : List ℕ) → All P ms → IfSome (named ms w) P
+  named_has [] w all = tt
+  named_has (m ∷ ms) w all = either (named ms w) (cond (bytes_eq m.name w) (Some m) None) (named_has ms w (All-tail P m ms all)) (where_true (bytes_eq m.name w) m (all 0 m (omega arith)))
+
+  put_has : (o : Option Matrix) (ms : List Matrix) → IfSome o P → All P ms → All P (put_first o ms)
+  put_has None ms h all = all
+  put_has (Some m) ms h all = All-cons P m ms h all
+
+  select_has : (ms : List Matrix) (ws : List (List ℕ)) → All P ms → All P (select ms ws)
+  select_has ms [] all = All-nil P
+  select_has ms (w ∷ ws) all = put_has (named ms w) (select ms ws) (named_has ms w all) (select_has ms ws all)
+
+  by_has : (o : Option Call) (ms : List Matrix) → All P ms → All P (generators_by o ms)
+  by_has None ms all = all
+  by_has (Some c) ms all = select_has ms c.arguments all
+
+generators_good : (s : Script) → IsScript s → first_misfit (length s.variables) (matrices s) ≡ None → All (IsGood (length s.variables)) (generators s)
+unfolding generators
+generators_good s is sizes = by_has (IsGood (length s.variables)) (the_call s.items) (matrices s) (good_matrices (length s.variables) s.items is.items sizes)
+
+-- the generator at a place
+pub generator_good : (s : Script) (n : ℕ) (xs : List (Bor MatrixText)) (i : ℕ) (d : Bor MatrixText) → IsScript s → first_misfit (length s.variables) (matrices s) ≡ None → n ≡ length s.variables
+    → matrices_at xs ≡ generators s → i < length xs → IsGood n (matrix_of (get_or xs i d).now)
+generator_good s n xs i d is sizes same these below =
+    let all = subst (All (IsGood (length s.variables))) (sym these) (generators_good s is sizes) in
+    let within : i < length (matrices_at xs) = subst (λ k. i < k) (sym (length-map xs (λ (m : Bor MatrixText). matrix_of m.now))) below in
+    subst (λ k. IsGood k (matrix_of (get_or xs i d).now)) (sym same)
+    (subst (IsGood (length s.variables)) (get_or-map (λ (m : Bor MatrixText). matrix_of m.now) xs i d (matrix_of d.now) below) (all i (matrix_of d.now) within))
+
+pub size_entries : (n : ℕ) (m : MatrixText) → IsGood n (matrix_of m) → length m.entries.items ≡ n * n
+size_entries n m h =
+    let size = h.size in
+    let long : length (matrix_of m).entries ≡ n * n = grind (arith, nat_tests) in
+    sym (length-map m.entries.items _) ∙ long
+
+-- one generator more
+singular_here : (p n : ℕ) (xs : List (Bor MatrixText)) (i : ℕ) (d : Bor MatrixText) (fault : Option InputFault) → i < length xs
+    → FirstSingular p n (matrix_of (get_or xs i d).now ∷ matrices_at (drop (i + 1) xs)) fault → FirstSingular p n (matrices_at (drop i xs)) fault
+singular_here p n xs i d fault below h = subst (λ l. FirstSingular p n (matrices_at l) fault) (sym (drop_more xs i d below)) h
+
+pub singular_step : (p n : ℕ) (xs : List (Bor MatrixText)) (i : ℕ) (d : Bor MatrixText) (fault : Option InputFault) → i < length xs
+    → HasInverse p n (cells p (matrix_of (get_or xs i d).now)) → FirstSingular p n (matrices_at (drop (i + 1) xs)) fault → FirstSingular p n (matrices_at (drop i xs)) fault
+singular_step p n xs i d fault below has rest = singular_here p n xs i d fault below (inl (has, rest))
+
+pub singular_found : (p n : ℕ) (xs : List (Bor MatrixText)) (i : ℕ) (d : Bor MatrixText) (w : List ℕ) → i < length xs
+    → (¬ HasInverse p n (cells p (matrix_of (get_or xs i d).now))) → w ≡ (get_or xs i d).now.name.now → FirstSingular p n (matrices_at (drop i xs)) (Some (faults.Singular w))
+singular_found p n xs i d w below none name = singular_here p n xs i d (Some (faults.Singular w)) below (inr (none, ap (λ v. Some (faults.Singular v)) name))
+
+pub generators_more : (p n : ℕ) (xs : List (Bor MatrixText)) (i : ℕ) (d : Bor MatrixText) → i < length xs
+    → map (generator p n) (matrices_at (take (i + 1) xs)) ≡ map (generator p n) (matrices_at (take i xs)) ++ generator p n (matrix_of (get_or xs i d).now) ∷ []
+generators_more p n xs i d below =
+    ap (λ l. map (generator p n) (matrices_at l)) (take_more xs i d below)
+    ∙ ap (map (generator p n)) (map-append (λ (m : Bor MatrixText). matrix_of m.now) (take i xs) (get_or xs i d ∷ []))
+    ∙ map-append (generator p n) (matrices_at (take i xs)) (matrix_of (get_or xs i d).now ∷ [])
