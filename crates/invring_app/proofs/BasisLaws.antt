@@ -74,9 +74,6 @@ pub bound_is : (weights : List ℕ) (n m d degree count limit : ℕ) → weights
     → (degree ≡ d) × (count ≡ monomials_of_degree m d) × (limit < count)
 bound_is weights n m d degree count limit ones same b = (b.0, b.1 ∙ ap (λ (l : ℕ). monomials_of_degree l d) (weights_many weights n m ones same), b.2)
 
-pub within_is : (weights : List ℕ) (n m d limit : ℕ) → weights ≡ replicate n 1 → n ≡ m → monomials_of_degree (length weights) d ≤ limit → monomials_of_degree m d ≤ limit
-within_is weights n m d limit ones same b = subst (λ (l : ℕ). monomials_of_degree l d ≤ limit) (weights_many weights n m ones same) b
-
 module _ {X : Type 0} (view : X → List (Entry ℕ)) (tree : Tree) (script : Script) (space : Space PrimeField Dp) (names : Names) (basis : List X) (n d : ℕ) (text : List ℕ) where
   abbrev S : SpaceOver ℕ
   S = over (λ (f : PrimeField). gfp f.p f.listed) (λ (o : Dp). dp_order o.weights.items) space

@@ -86,9 +86,6 @@ pub err-line : {T E : Type 0} (r : Result T E) (a c : Option (List ℕ)) (line l
     → OnErr r ((k : ℕ) × (k ≤ length line) × Took a (take k line) c) → OnErr r ((k : ℕ) × (k ≤ length line') × Took a (take k line') c)
 err-line r a c line line' same front = subst (λ (t : List ℕ). OnErr r ((k : ℕ) × (k ≤ length t) × Took a (take k t) c)) same front
 
-pub numbered-line : (text slice shown : List ℕ) (n m : ℕ) → slice ≡ shown → shown ≡ decimal n → n ≡ m → line_of (text ∷ slice ∷ []) ≡ line_of (text ∷ decimal m ∷ [])
-numbered-line text slice shown n m first second third = ap (λ (t : List ℕ). line_of (text ∷ t ∷ [])) (first ∙ second ∙ ap decimal third)
-
 pub terms-line : (slice shown slice' shown' : List ℕ) (n degree count : ℕ) → slice ≡ shown → shown ≡ decimal n → n ≡ degree → slice' ≡ shown' → shown' ≡ decimal count
     → line_of (codes "bound terms " ∷ slice ∷ codes " " ∷ slice' ∷ []) ≡ line_of (codes "bound terms " ∷ decimal degree ∷ codes " " ∷ decimal count ∷ [])
 terms-line slice shown slice' shown' n degree count a b c d e =

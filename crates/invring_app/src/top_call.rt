@@ -24,10 +24,10 @@ const LIMIT: usize = 16777216;
 
 /// Does what the words ask for: reads the script to its end, and writes the basis.
 ///
-/// Of several faults the first one is answered, in the order words, reading, length,
-/// syntax, values, bound, writing; `Memory` may come wherever the words are a command. All of the output is made before
-/// its first byte is written. At every status but `Done` one line goes to `err`; a fault of `err`
-/// leaves the status as it is.
+/// Of several faults the first one is answered, in the order words, reading, length, syntax,
+/// values, bound, writing; `Memory` may come wherever the words are a command. All of the output is
+/// made before its first byte is written. At every status but `Done` one line goes to `err`; a
+/// fault of `err` leaves the status as it is.
 pub fn run<S: Source, O: Sink, E: Sink>(
     alloc: Global,
     words: &[String],
