@@ -13,3 +13,4 @@ pub mod DeclarationSteps
 pub mod MatrixSteps
 pub mod GeneratorSteps
 pub mod SingularSteps
+pub mod NameSteps
