@@ -14,3 +14,4 @@ pub mod MatrixSteps
 pub mod GeneratorSteps
 pub mod SingularSteps
 pub mod NameSteps
+pub mod ScriptSteps

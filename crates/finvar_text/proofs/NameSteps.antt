@@ -1,13 +1,12 @@
 -- The names that faults tell are names.
-use Rattle.std.proofs.Common.{◌≡◌, ◌∙◌, ℕ, Bool, true, false, ◌&&◌, List, [], ◌∷◌, ◌++◌, Option, Some, None, cond, length, sym, ap, subst, refl, arith}
-use Rattle.std.specs.Prelude.{All, IfSome, ◌≤◌, nat_le}
+use Rattle.std.proofs.Common.{◌≡◌, ℕ, Bool, true, false, List, [], ◌∷◌, ◌++◌, Option, Some, None, cond, sym, subst, arith}
+use Rattle.std.specs.Prelude.{All, IfSome}
 use Rattle.std.specs.Borrow.{Bor}
-use Rattle.std.specs.List.{flat_map, list_all}
+use Rattle.std.specs.List.{flat_map}
 use Rattle.std.specs.Option.{option_or}
-use Rattle.std.proofs.lemmas.Bool.{leb-true}
 use Rattle.std.proofs.lemmas.List.Elements.{All-nil, All-cons, All-tail, All-append}
-use Rattle.finvar_text.specs.Conditions.{is_among, first_twice, first_other, unknown_in, first_unknown, name_of, names_of, first_misfit, has_size, matrices_of, declared_names, matrices, is_small, is_small_item, number_fault, variables_fault}
-use Rattle.finvar_text.specs.Syntax.{Item, Lib, Declared, Printed, Called, Matrix, Script, IsItem, IsName, IsScript}
+use Rattle.finvar_text.specs.Conditions.{is_among, first_twice, first_other, unknown_in, first_unknown, name_of, names_of, first_misfit, has_size, matrices_of, declared_names, matrices}
+use Rattle.finvar_text.specs.Syntax.{Item, Lib, Declared, Printed, Called, Script, IsItem, IsName, IsScript}
 use Rattle.finvar_text.specs.Trees.{word_of}
 
 one : (b : Bool) (w : List ℕ) (o : Option (List ℕ)) → IsName w → IfSome o IsName → IfSome (cond b (Some w) o) IsName

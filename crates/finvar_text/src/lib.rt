@@ -3,6 +3,7 @@
 
 mod fault;
 mod laws;
+mod read;
 mod scan;
 mod scan_symbols;
 #[cfg(test)]
@@ -19,3 +20,5 @@ mod values_names;
 
 pub use fault::ScriptFault;
 pub use laws::trees_of_texts;
+pub use read::read_script;
+pub use script::Script;
