@@ -1,14 +1,10 @@
 -- Generators: their entries modulo the characteristic, their sizes and names, and which has no inverse.
-use Rattle.std.proofs.Common.{◌≡◌, ◌∙◌, ℕ, ◌+◌, ◌-◌, ◌*◌, ◌%◌, ◌<◌, Bool, true, false, ◌&&◌, ◌==◌, nat_lt, List, [], ◌∷◌, ◌++◌, length, take, drop, map, get_or, Option, Some, None, cond, sym, ap, ap₂, subst, refl, inl, inr, arith}
-use Rattle.std.specs.Prelude.{All, IfSome, IsTrue}
-use Rattle.std.specs.List.{flat_map}
-use Rattle.std.specs.Option.{option_or}
-use Rattle.std.specs.Str.{bytes_eq}
-use Rattle.std.proofs.lemmas.Nat.{mul-mod_first, mod_below}
+use Rattle.std.proofs.Common.{◌≡◌, ◌∙◌, ℕ, ◌+◌, ◌-◌, ◌*◌, ◌%◌, ◌<◌, Bool, true, false, nat_lt, List, [], length, take, map, get_or, cond, sym, ap, ap₂, subst}
+use Rattle.std.specs.Prelude.{All}
+use Rattle.std.proofs.lemmas.Nat.{mul-mod_first}
 use Rattle.std.proofs.Math.Nat.{mod-add-mod, mod-eq_of_lt}
-use Rattle.std.proofs.lemmas.Bool.Decides.{nat_tests}
 use Rattle.std.proofs.lemmas.List.{length-map}
-use Rattle.std.proofs.lemmas.List.Elements.{All-nil, All-cons, All-map}
+use Rattle.std.proofs.lemmas.List.Elements.{All-map}
 use mathlib.Core.Bool.{Bool-set}
 use Rattle.alg_core.specs.Fields.{Has, Scalar, scalars}
 use Rattle.lin_algebra.specs.Matrices.{IsMatrix, IsInverse, entries, cut}
@@ -19,10 +15,10 @@ use Rattle.prime_field.specs.PrimeFields.{gfp, residue_test, listed_positive}
 use Rattle.prime_field.specs.Residues.{neg_mod}
 use Rattle.std.specs.Prelude.{slice_index_or}
 use Rattle.finvar_text.specs.declared.syntax.EntryText.{EntryText}
-use Rattle.finvar_text.specs.Conditions.{value, residue, cells, HasInverse, entries_of_cells}
+use Rattle.finvar_text.specs.Conditions.{value, residue, cells, HasInverse}
 use Rattle.finvar_text.specs.Scripts.{sized_cells, generator, IsInvertible}
 use Rattle.finvar_text.specs.Syntax.{Entry, Matrix}
-use Rattle.finvar_text.specs.Trees.{entry_of, entries_of, matrix_of}
+use Rattle.finvar_text.specs.Trees.{entry_of, entries_of}
 use Rattle.finvar_text.proofs.NumberSteps.{value_nil, value_more}
 
 pub modulo_nil : (p : ℕ) → 0 < p → 0 ≡ value [] % p

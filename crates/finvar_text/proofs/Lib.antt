@@ -13,3 +13,5 @@ pub mod DeclarationSteps
 pub mod MatrixSteps
 pub mod GeneratorSteps
 pub mod SingularSteps
+pub mod NameSteps
+pub mod ScriptSteps

@@ -1,17 +1,17 @@
 -- The generators have the size that is wanted and names, and the first of them that has no inverse.
-use Rattle.std.proofs.Common.{◌≡◌, ◌∙◌, ℕ, ◌+◌, ◌*◌, ◌<◌, ◌≤◌, Bool, true, false, ◌&&◌, ◌==◌, List, [], ◌∷◌, ◌++◌, length, take, drop, map, get_or, Option, Some, None, cond, sym, ap, subst, refl, inl, inr, arith}
-use Rattle.std.specs.Prelude.{All, IfSome, IsTrue}
+use Rattle.std.proofs.Common.{◌≡◌, ◌∙◌, ℕ, ◌+◌, ◌*◌, ◌<◌, Bool, true, false, List, [], ◌∷◌, ◌++◌, length, take, drop, map, get_or, Option, Some, None, cond, sym, ap, subst, refl, inl, inr, arith}
+use Rattle.std.specs.Prelude.{All, IfSome}
 use Rattle.std.specs.Borrow.{Bor}
 use Rattle.std.specs.List.{flat_map}
 use Rattle.std.specs.Option.{option_or}
 use Rattle.std.specs.Str.{bytes_eq}
 use Rattle.std.proofs.lemmas.Bool.Decides.{nat_tests}
-use Rattle.std.proofs.lemmas.List.{get_or-map, length-map, drop_more, drop_all, take_more, map-append}
+use Rattle.std.proofs.lemmas.List.{get_or-map, length-map, drop_more, take_more, map-append}
 use Rattle.std.proofs.lemmas.List.Elements.{All-nil, All-cons, All-tail}
 use Rattle.alg_core.specs.declared.input_fault.InputFault.{InputFault}
 use Rattle.alg_core.specs.declared.input_fault.InputFault.TheVariants as faults
 use Rattle.finvar_text.specs.declared.syntax.MatrixText.{MatrixText}
-use Rattle.finvar_text.specs.Conditions.{value, cells, has_size, first_misfit, matrices_of, matrices, named, put_first, select, generators, generators_by, the_call, HasInverse, FirstSingular}
+use Rattle.finvar_text.specs.Conditions.{cells, has_size, first_misfit, matrices_of, matrices, named, put_first, select, generators, generators_by, the_call, HasInverse, FirstSingular}
 use Rattle.finvar_text.specs.Scripts.{generator}
 use Rattle.finvar_text.specs.Syntax.{Call, Item, Lib, Declared, Printed, Called, Matrix, Script, IsItem, IsName, IsScript}
 use Rattle.finvar_text.specs.Trees.{matrix_of, matrices_at}

@@ -4,13 +4,14 @@
 --   generator p n m        those of the n by n matrix with the entries of m modulo p
 --   IsInvertible p g       g is a square matrix over GF(p) with an inverse
 --   IsSingularFault p n ms e   the error tells the first matrix with no inverse, or want of memory
---   IsScriptOf t s         s has the characteristic, the variables and the generators of the script t
---   IsInputFault bytes f   the bytes are more than 16777216 and f says so; or they are a text whose first faulty value has the fault f
---   IsScriptFault bytes f  the bytes are at most 16777216 and their first syntax fault is where f says; or they have the input fault of
---                          f; or memory was refused
-use Rattle.std.specs.Prelude.{◌≡◌, ◌⊎◌, ℕ, ◌<◌, ◌≤◌, List, length, map, Some, true}
-use Rattle.alg_core.specs.declared.input_fault.InputFault.{InputFault}
-use Rattle.alg_core.specs.declared.input_fault.InputFault.TheVariants as inputs
+--   IsScriptOf t r         r has the characteristic, the names and the generators of the tree t
+--   IsValueFault t e       the error tells the first condition on values that fails, or want of memory
+--   fault_of e             a fault of the syntax as one of the script
+--   most_bytes             the number of bytes that a script may have, 16777216
+--   IsInputFault bytes f   there are more bytes than that, and this is the fault; or the bytes have a tree, and the first condition that fails has this fault
+--   IsScriptFault bytes e  the first fault of the bytes, or want of memory
+--   IsReadScript bytes r   the bytes have a tree, no condition fails, and r is its script
+use Rattle.std.specs.Prelude.{◌≡◌, ◌⊎◌, ◌≤◌, ◌<◌, ℕ, List, length, map, Some, None, true}
 use Rattle.alg_core.specs.Fields.{Scalar, scalars}
 use Rattle.lin_algebra.specs.Matrices.{IsMatrix, IsInverse, entries}
 use Rattle.lin_algebra.specs.declared.matrix.Matrix as lin
@@ -19,8 +20,12 @@ use Rattle.prime_field.specs.PrimeFields.{gfp}
 use Rattle.finvar_text.specs.declared.fault.ScriptFault.{ScriptFault}
 use Rattle.finvar_text.specs.declared.fault.ScriptFault.TheVariants as faults
 use Rattle.finvar_text.specs.Conditions.{value, cells, generators, FirstSingular, HasFault}
-use Rattle.finvar_text.specs.Syntax.{Matrix, Script as Tree, IsText, IsFirstFault}
-use Rattle.finvar_text.specs.declared.script.Script.{Script}
+use Rattle.finvar_text.specs.Syntax.{Matrix, Script, IsText, IsFirstFault}
+use Rattle.finvar_text.specs.declared.script.Script as program
+use Rattle.finvar_text.specs.declared.scan.SyntaxFault.{SyntaxFault}
+use Rattle.finvar_text.specs.declared.scan.SyntaxFault.TheVariants as scans
+use Rattle.alg_core.specs.declared.input_fault.InputFault.{InputFault}
+use Rattle.alg_core.specs.declared.input_fault.InputFault.TheVariants as inputs
 
 abbrev pub sized_cells : lin.Matrix ℕ → ℕ × ℕ × List ℕ
 sized_cells g = (g.rows, g.cols, g.cells.items)
@@ -36,15 +41,31 @@ IsSingularFault p n ms (faults.Syntax place) = ⊥
 IsSingularFault p n ms (faults.Input fault) = FirstSingular p n ms (Some fault)
 IsSingularFault p n ms faults.Memory = Unit {0}
 
-pub record IsScriptOf (t : Tree) (s : Script) : Type 0 where
-  pub characteristic : s.characteristic ≡ value t.characteristic
-  pub names : s.names.items ≡ t.variables
-  pub gens : map sized_cells s.gens.items ≡ map (generator (value t.characteristic) (length t.variables)) (generators t)
+-- what the program makes of the tree
+pub record IsScriptOf (t : Script) (r : program.Script) : Type 0 where
+  pub characteristic : r.characteristic ≡ value t.characteristic
+  pub names : r.names.items ≡ t.variables
+  pub gens : map sized_cells r.gens.items ≡ map (generator (value t.characteristic) (length t.variables)) (generators t)
+
+abbrev pub IsValueFault : Script → ScriptFault → Type 0
+IsValueFault t (faults.Syntax place) = ⊥
+IsValueFault t (faults.Input fault) = HasFault t (Some fault)
+IsValueFault t faults.Memory = Unit {0}
+
+abbrev pub fault_of : SyntaxFault → ScriptFault
+fault_of (scans.Syntax place) = faults.Syntax place
+fault_of scans.Memory = faults.Memory
+
+abbrev pub most_bytes : ℕ
+most_bytes = 16777216
 
 abbrev pub IsInputFault : List ℕ → InputFault → Type 0
-IsInputFault bytes f = ((f ≡ inputs.Long) × (16777216 < length bytes)) ⊎ ((length bytes ≤ 16777216) × ((t : Tree) × IsText t bytes × HasFault t (Some f)))
+IsInputFault bytes fault = ((fault ≡ inputs.Long) × (most_bytes < length bytes)) ⊎ ((length bytes ≤ most_bytes) × (t : Script) × IsText t bytes × HasFault t (Some fault))
 
 abbrev pub IsScriptFault : List ℕ → ScriptFault → Type 0
-IsScriptFault bytes (faults.Syntax n) = IsFirstFault bytes n × (length bytes ≤ 16777216)
-IsScriptFault bytes (faults.Input f) = IsInputFault bytes f
+IsScriptFault bytes (faults.Syntax place) = IsFirstFault bytes place × (length bytes ≤ most_bytes)
+IsScriptFault bytes (faults.Input fault) = IsInputFault bytes fault
 IsScriptFault bytes faults.Memory = Unit {0}
+
+abbrev pub IsReadScript : List ℕ → program.Script → Type 0
+IsReadScript bytes r = (t : Script) × IsText t bytes × (length bytes ≤ most_bytes) × HasFault t None × IsScriptOf t r

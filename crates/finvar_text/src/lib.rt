@@ -13,6 +13,7 @@ mod scan_words;
 mod script;
 mod syntax;
 mod values;
+mod values_faults;
 mod values_generators;
 mod values_matrices;
 mod values_names;

@@ -1,13 +1,14 @@
 //! The script that a tree stands for, or the first fault of its values.
 
 ghost use Rattle.std.specs.Prelude.{◌≡◌, IfErr, IfOk, IfSome, None, Some, length, map, All};
-ghost use Rattle.finvar_text.specs.Conditions.{first_of, value_conditions, FirstSingular, first_misfit, generators, matrices};
-ghost use Rattle.finvar_text.specs.Scripts.{generator, sized_cells, IsInvertible, IsSingularFault};
-ghost use Rattle.finvar_text.specs.Syntax.{IsScript};
-ghost use Rattle.finvar_text.specs.Trees.{script_of};
+ghost use Rattle.finvar_text.specs.Conditions.{first_of, value_conditions, FirstSingular, HasFault, first_misfit, generators, matrices};
+ghost use Rattle.finvar_text.specs.Scripts.{generator, sized_cells, IsInvertible, IsSingularFault, IsScriptOf, IsValueFault};
+ghost use Rattle.finvar_text.specs.Syntax.{IsName, IsScript};
+ghost use Rattle.finvar_text.specs.Trees.{bytes_of, script_of};
 
 use crate::fault::ScriptFault;
 use crate::syntax::ScriptText;
+use crate::values_faults::{characteristic, value_fault};
 use crate::values_generators::invertible_over;
 use crate::values_matrices::generators;
 use alg_core::{Field, InputFault, Memory, Name};
@@ -15,8 +16,8 @@ use lin_algebra::Matrix;
 use prime_field::PrimeField;
 use std::alloc::Global;
 
-/// What a script tells: a characteristic, the names of the variables, and the generators of a
-/// group, each a matrix with a row and a column for each variable.
+/// A script: the characteristic, the names of the variables, and the generators, with entries reduced modulo the
+/// characteristic.
 #[derive(Debug, Drop)]
 pub struct Script {
     pub characteristic: u32,
@@ -51,4 +52,43 @@ fn gens_over(
         }
     }
     Ok(gens)
+}
+
+/// The names of the variables.
+fn variable_names(alloc: Global, script: &ScriptText) -> Result<Vec<Name>, Memory>
+    requires names { All IsName (bytes_of script.now.variables.items) }
+    ensures is { IfOk result (λ ns. ns.items ≡ bytes_of script.now.variables.items) }
+{
+    let mut names = Vec::new(alloc);
+    for variable in script.variables.as_slice() {
+        let name = Name::new(alloc, *variable)?;
+        names.push(name)?;
+    }
+    Ok(names)
+}
+
+/// The script of the tree, or the first fault of its values.
+pub(crate) fn script_of(alloc: Global, tree: &ScriptText) -> Result<Script, ScriptFault>
+    requires script { IsScript (script_of tree.now) }
+    ensures script { IfOk result (IsScriptOf (script_of tree.now)) }
+    ensures none { IfOk result (λ _. HasFault (script_of tree.now) None) }
+    ensures invertible { IfOk result (λ r. All (IsInvertible r.characteristic) r.gens.items) }
+    ensures fault { IfErr result (IsValueFault (script_of tree.now)) }
+{
+    if let Some(fault) = value_fault(alloc, tree)? {
+        return Err(ScriptFault::Input(fault));
+    }
+    let p = characteristic(tree) as u32;
+    match PrimeField::new(p) {
+        Ok(field) => {
+            let gens = gens_over(alloc, &field, tree)?;
+            let names = variable_names(alloc, tree)?;
+            Ok(Script {
+                characteristic: p,
+                names,
+                gens,
+            })
+        }
+        Err(_) => Err(ScriptFault::Input(InputFault::Field { p: u128::from(p) })),
+    }
 }

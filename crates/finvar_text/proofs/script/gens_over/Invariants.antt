@@ -1,4 +1,4 @@
-use Rattle.std.proofs.Common.{◌≡◌, map, take, drop, length, Option}
+use Rattle.std.proofs.Common.{◌≡◌, map, take, drop, Option}
 use Rattle.std.specs.Prelude.{All}
 use Rattle.alg_core.specs.declared.input_fault.InputFault.{InputFault}
 use Rattle.finvar_text.specs.Conditions.{FirstSingular}

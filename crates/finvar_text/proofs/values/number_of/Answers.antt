@@ -1,5 +1,4 @@
-use Rattle.std.proofs.Common.{◌≡◌, ◌∙◌, ◌+◌, ◌-◌, ◌*◌, ◌<◌, get_or, sym, ap, ap₂, arith}
-use Rattle.finvar_text.specs.Conditions.{most}
+use Rattle.std.proofs.Common.{◌∙◌, ◌*◌, ap, arith}
 use Rattle.finvar_text.proofs.NumberSteps.{value_nil, value_more, value_all, number_within, step_over}
 use Rattle.finvar_text.proofs.values.number_of.Goals as goal
 

@@ -1,4 +1,4 @@
-use Rattle.std.proofs.Common.{◌≡◌, ◌∙◌, ℕ, subst}
+use Rattle.std.proofs.Common.{ℕ, subst}
 use Rattle.std.specs.Prelude.{IfSome, IfNone}
 use Rattle.alg_core.specs.Fields.{Scalar, scalars}
 use Rattle.lin_algebra.specs.Matrices.{IsInverse, entries}

@@ -1,7 +1,5 @@
-use Rattle.std.proofs.Common.{◌≡◌, ◌∙◌, ◌+◌, ◌++◌, ◌∷◌, [], take, sym, ap, subst}
+use Rattle.std.proofs.Common.{◌+◌, take, sym, subst}
 use Rattle.std.specs.List.{flat_map}
-use Rattle.std.specs.Borrow.{Bor}
-use Rattle.finvar_text.specs.declared.syntax.MatrixText.{MatrixText}
 use Rattle.finvar_text.specs.Conditions.{matrices_of}
 use Rattle.finvar_text.specs.Declarations.{MapsNames}
 use Rattle.finvar_text.specs.Trees.{items_of}

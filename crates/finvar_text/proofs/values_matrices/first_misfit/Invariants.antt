@@ -1,4 +1,4 @@
-use Rattle.std.proofs.Common.{◌≡◌, length, drop}
+use Rattle.std.proofs.Common.{◌≡◌, drop}
 use Rattle.std.specs.List.{flat_map}
 use Rattle.finvar_text.specs.Conditions.{first_misfit, matrices_of}
 use Rattle.finvar_text.specs.Trees.{items_of}

@@ -1,4 +1,4 @@
-use Rattle.std.proofs.Common.{◌≡◌, ◌∙◌, sym, ap}
+use Rattle.std.proofs.Common.{◌∙◌, sym, ap}
 use Rattle.finvar_text.specs.Conditions.{generators, generators_by, matrices, select}
 use Rattle.finvar_text.specs.Trees.{bytes_of, call_at, script_of}
 use Rattle.finvar_text.proofs.values_matrices.generators.Goals as goal

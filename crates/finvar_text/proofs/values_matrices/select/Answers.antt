@@ -1,4 +1,4 @@
-use Rattle.std.proofs.Common.{◌≡◌, ◌∙◌, ℕ, List, [], get_or, sym, ap}
+use Rattle.std.proofs.Common.{◌∙◌, ℕ, List, [], get_or, sym, ap}
 use Rattle.std.specs.Borrow.{Bor}
 use Rattle.std.specs.Option.{option_map}
 use Rattle.finvar_text.specs.declared.syntax.MatrixText.{MatrixText}

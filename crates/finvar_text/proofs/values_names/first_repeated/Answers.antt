@@ -1,4 +1,4 @@
-use Rattle.std.proofs.Common.{◌≡◌, ◌∙◌, ◌∷◌, ◌++◌, ℕ, List, [], length, take, get_or, sym, ap}
+use Rattle.std.proofs.Common.{◌∙◌, ℕ, List, [], take, get_or, sym, ap}
 use Rattle.std.specs.Borrow.{Bor}
 use Rattle.std.specs.Str.{bytes_eq}
 use Rattle.std.specs.HashSet as set

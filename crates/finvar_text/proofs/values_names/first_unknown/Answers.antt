@@ -1,4 +1,4 @@
-use Rattle.std.proofs.Common.{◌≡◌, ◌∙◌, ◌∷◌, ◌++◌, ◌<◌, take, length, get_or, sym, ap, subst}
+use Rattle.std.proofs.Common.{◌∙◌, ◌∷◌, ◌++◌, ◌<◌, take, length, get_or, sym, ap, subst}
 use Rattle.std.specs.List.{flat_map}
 use Rattle.finvar_text.specs.Conditions.{names_of, name_of, unknown_in}
 use Rattle.finvar_text.specs.Declarations.{AreDeclared}

@@ -1,4 +1,4 @@
-use Rattle.std.proofs.Common.{◌≡◌, ◌∙◌, ℕ, List, [], sym, ap, get_or, drop, length, arith}
+use Rattle.std.proofs.Common.{◌∙◌, ℕ, List, [], sym, ap, get_or}
 use Rattle.std.specs.Borrow.{Bor}
 use Rattle.std.proofs.lemmas.List.{drop_all}
 use Rattle.finvar_text.specs.Conditions.{first_other}

@@ -1,4 +1,4 @@
-use Rattle.std.proofs.Common.{◌≡◌, ◌∙◌, ◌∷◌, ◌++◌, ℕ, List, [], length, take, get_or, sym, ap, arith}
+use Rattle.std.proofs.Common.{◌∙◌, ◌∷◌, ℕ, List, [], take, get_or, sym, ap}
 use Rattle.std.specs.Borrow.{Bor}
 use Rattle.finvar_text.specs.Trees.{bytes_of}
 use Rattle.finvar_text.proofs.DeclarationSteps.{holds_none, holds_more, holds_same, words_more, words_all}

@@ -1,4 +1,4 @@
-use Rattle.std.proofs.Common.{◌≡◌, ◌∙◌, Some, None, cond, sym, ap}
+use Rattle.std.proofs.Common.{◌∙◌, Some, None, cond, sym, ap}
 use Rattle.finvar_text.specs.Conditions.{first_other, unknown_in}
 use Rattle.finvar_text.specs.Trees.{bytes_of, item_of}
 use Rattle.finvar_text.proofs.values_names.Declarations.unknown_in.Goals as goal
