@@ -60,12 +60,12 @@ abbrev pub most_bytes : ℕ
 most_bytes = 16777216
 
 abbrev pub IsInputFault : List ℕ → InputFault → Type 0
-IsInputFault bytes fault = ((fault ≡ inputs.Long) × (most_bytes < length bytes)) ⊎ ((length bytes ≤ most_bytes) × (t : Script) × IsText t bytes × HasFault t (Some fault))
+IsInputFault bytes fault = ((most_bytes < length bytes) × (fault ≡ inputs.Long)) ⊎ ((length bytes ≤ most_bytes) × (t : Script) × IsText t bytes × HasFault t (Some fault))
 
 abbrev pub IsScriptFault : List ℕ → ScriptFault → Type 0
-IsScriptFault bytes (faults.Syntax place) = IsFirstFault bytes place × (length bytes ≤ most_bytes)
+IsScriptFault bytes (faults.Syntax place) = (length bytes ≤ most_bytes) × IsFirstFault bytes place
 IsScriptFault bytes (faults.Input fault) = IsInputFault bytes fault
 IsScriptFault bytes faults.Memory = Unit {0}
 
 abbrev pub IsReadScript : List ℕ → program.Script → Type 0
-IsReadScript bytes r = (t : Script) × IsText t bytes × (length bytes ≤ most_bytes) × HasFault t None × IsScriptOf t r
+IsReadScript bytes r = (length bytes ≤ most_bytes) × (t : Script) × IsText t bytes × HasFault t None × IsScriptOf t r

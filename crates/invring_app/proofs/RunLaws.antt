@@ -53,7 +53,7 @@ read-input None left' bytes f read fault = tt
 read-input (Some whole) None bytes f read fault = absurd read.gave
 read-input (Some whole) (Some rest) bytes f read (inl long) =
     let more : length whole ≡ length bytes + length rest = ap length read.gave ∙ length-append bytes rest in
-    inl (long.0, omega (arith, long.1))
+    inl (omega (arith, long.0), long.1)
 read-input (Some whole) (Some rest) bytes f read (inr fault) = subst (λ (t : List ℕ). IsInputFault t f) (sym (read-whole whole bytes (Some rest) read fault.0)) (inr fault)
 
 -- what holds of the degree, the limits and the script that were read holds of those that are asked

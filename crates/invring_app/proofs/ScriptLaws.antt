@@ -14,7 +14,7 @@ use Rattle.prime_field.specs.ListedPrimes.{is_listed}
 use Rattle.prime_field.specs.PrimeFields.{listed_positive}
 use Rattle.prime_field.specs.Residues.{neg_mod}
 use Rattle.finvar_text.specs.Conditions.{value, residue, cells, has_size, first_misfit, named, put_first, select, the_call, generators_by, generators, matrices, value_conditions, number_fault, field_fault, variables_fault, twice_fault, unknown_fault, size_fault, some_matrix, first_of, FaultFrom, HasFault}
-use Rattle.finvar_text.specs.Scripts.{IsScriptOf}
+use Rattle.finvar_text.specs.Scripts.{IsScriptOf, IsReadScript}
 use Rattle.finvar_text.specs.Syntax.{Call, Entry, Matrix, Script as Tree, IsSome, IsScript, IsText}
 use Rattle.finvar_text.specs.declared.script.Script.{Script}
 use Rattle.invring_app.specs.Bases.{IsGenerator, IsSound}
@@ -143,5 +143,5 @@ sound_script t s tree fault is =
     }
 
 -- so is a script that was read
-pub sound_read : (bytes : List ℕ) (s : Script) → (t : Tree) × IsText t bytes × (length bytes ≤ 16777216) × HasFault t None × IsScriptOf t s → IsSound s
-sound_read bytes s read = sound_script read.0 s read.1.script read.3 read.4
+pub sound_read : (bytes : List ℕ) (s : Script) → IsReadScript bytes s → IsSound s
+sound_read bytes s read = sound_script read.1 s read.2.script read.3 read.4
