@@ -1,9 +1,11 @@
-//! Scripts: which bytes are one, the tree of each, and the first place where others fail.
+//! Scripts: which bytes are one, the tree of each, the conditions on its values, and the first fault of all others.
 #![tactic(auto)]
 
 mod fault;
 mod laws;
 mod read;
+#[cfg(test)]
+mod read_tests;
 mod scan;
 mod scan_symbols;
 #[cfg(test)]
