@@ -21,6 +21,6 @@ mod values_matrices;
 mod values_names;
 
 pub use fault::ScriptFault;
-pub use laws::trees_of_texts;
+pub use laws::{faults_of_scripts, trees_of_texts};
 pub use read::read_script;
 pub use script::Script;
