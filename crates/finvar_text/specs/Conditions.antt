@@ -16,15 +16,22 @@
 --   has_size n m            whether the matrix has n rows, n columns and n · n entries
 --   first_misfit n ms       the name of the first matrix that does not have this size
 --   named ms w              the matrix of this name; where several have it, the last
+--   put_first o ms          the matrix, where there is one, before the others
 --   the_call is             the call, where there is one
 --   select ms ws            the matrices of these names
+--   generators_by o ms      the matrices that the call, where there is one, names; else all
 --   generators s            the matrices that the call names, in its order; all of them where there is no call
+--   number_fault s, field_fault s, variables_fault s, twice_fault s, unknown_fault s, size_fault s, some_matrix ms   the fault of each
+--                           condition, where it fails: the numbers are small, the characteristic is listed, there are at most 8
+--                           variables, no name is declared twice, each name that is used is declared before, each matrix has the
+--                           size of the variables, and there is a generator
 --   value_conditions s      each condition but that on inverses: its fault, where it fails
 --   first_of faults         the first fault
 --   residue p e, cells p m  the class of an entry modulo p, those of the entries of a matrix
 --   entries_of_cells k n cells   the scalar at a row and a column of an n by n matrix, 0 outside it
 --   HasInverse p n cells    the n by n matrix has an inverse over GF(p)
 --   FirstSingular p n ms fault   the fault tells the first matrix with no inverse, or there is none
+--   FaultFrom o s fault     the fault is o, where there is one, else that of the generators
 --   HasFault s fault        the first condition that fails has this fault, or all conditions hold and there is none
 use Rattle.std.specs.Prelude.{◌≡◌, ◌⊎◌, ℕ, ◌+◌, ◌-◌, ◌*◌, ◌%◌, Bool, true, ◌&&◌, ◌==◌, nat_le, List, [], ◌∷◌, ◌++◌, length, map, slice_index_or, Option, Some, None, if◌then◌else◌}
 use Rattle.std.specs.List.{flat_map, fold, list_all, list_any}

@@ -1,7 +1,14 @@
-ghost use Rattle.std.specs.Prelude.{◌≡◌, ℕ, List};
+ghost use Rattle.std.specs.Prelude.{◌≡◌, ℕ, List, Option};
+ghost use Rattle.alg_core.specs.declared.input_fault.InputFault.{InputFault};
+ghost use Rattle.finvar_text.specs.Conditions.{HasFault};
 ghost use Rattle.finvar_text.specs.Syntax.{Script, IsText};
 
 /// A text has one tree.
 pub fn trees_of_texts()
     ensures one { (text : List ℕ) (s t : Script) → IsText s text → IsText t text → s ≡ t }
+{}
+
+/// A tree has one first fault of its values, or none.
+pub fn faults_of_scripts()
+    ensures one { (s : Script) (f g : Option InputFault) → HasFault s f → HasFault s g → f ≡ g }
 {}

@@ -1,9 +1,11 @@
-//! Scripts: which bytes are one, the tree of each, and the first place where others fail.
+//! Scripts: which bytes are one, the tree of each, the conditions on its values, and the first fault of all others.
 #![tactic(auto)]
 
 mod fault;
 mod laws;
 mod read;
+#[cfg(test)]
+mod read_tests;
 mod scan;
 mod scan_symbols;
 #[cfg(test)]
@@ -19,6 +21,6 @@ mod values_matrices;
 mod values_names;
 
 pub use fault::ScriptFault;
-pub use laws::trees_of_texts;
+pub use laws::{faults_of_scripts, trees_of_texts};
 pub use read::read_script;
 pub use script::Script;
