@@ -44,7 +44,8 @@ fn answers_scripts(rt: HostRuntime) -> Result<(), Fail> {
     let one_variable = b"ring R=32003,(q),dp;\nmatrix A[1][1]=32002;";
     let identity = b"ring R=3,(x,y),dp; matrix A[2][2]=1,0,0,1;";
     let turn = b"ring R=3,(x,y,z),dp; matrix A[3][3]=0,1,0,2,0,0,0,0,2;";
-    let table: [(&str, &[u8], Status, &[u8], &[u8]); 11] = [
+    let largest_field = b"ring R=32003,(x,y),dp; matrix A[2][2]=0,1,1,0;";
+    let table: [(&str, &[u8], Status, &[u8], &[u8]); 12] = [
         ("2", SWAP, Status::Done, b"x^2+y^2\nx*y\n", b""),
         ("0", SWAP, Status::Done, b"1\n", b""),
         ("1", on_lines, Status::Done, b"x+y\n", b""),
@@ -58,6 +59,7 @@ fn answers_scripts(rt: HostRuntime) -> Result<(), Fail> {
         ),
         ("1", one_variable, Status::Done, b"", b""),
         ("2", one_variable, Status::Done, b"q^2\n", b""),
+        ("1", largest_field, Status::Done, b"x+y\n", b""),
         ("2", identity, Status::Done, b"x^2\nx*y\ny^2\n", b""),
         ("1", turn, Status::Done, b"", b""),
         ("3", turn, Status::Done, b"x^2*z-y^2*z\nx*y*z\n", b""),
@@ -206,7 +208,7 @@ fn reads_whole_scripts(rt: HostRuntime) -> Result<(), Fail> {
 fn tells_faults_of_scripts(rt: HostRuntime) -> Result<(), Fail> {
     let big = b"ring R=2,(x,y),dp; matrix A[2][2]=340282366920938463463374607431768211456,1,1,0;";
     let nine = b"ring R=2,(a,b,c,d,e,f,g,h,i),dp; matrix A[9][9]=0,1,1,0;";
-    let table: [(&[u8], u8, &[u8]); 11] = [
+    let table: [(&[u8], u8, &[u8]); 13] = [
         (b"", 3, b"syntax place 0\n"),
         (
             b"ring R=2,(x,y),lp; matrix A[2][2]=0,1,1,0;",
@@ -220,9 +222,19 @@ fn tells_faults_of_scripts(rt: HostRuntime) -> Result<(), Fail> {
         ),
         (big, 4, b"input number\n"),
         (
+            b"ring R=0,(x,y),dp; matrix A[2][2]=0,1,1,0;",
+            4,
+            b"input field 0\n",
+        ),
+        (
             b"ring R=4,(x,y),dp; matrix A[2][2]=0,1,1,0;",
             4,
             b"input field 4\n",
+        ),
+        (
+            b"ring R=13,(x,y),dp; matrix A[2][2]=0,1,1,0;",
+            4,
+            b"input field 13\n",
         ),
         (nine, 4, b"input variables 9\n"),
         (
