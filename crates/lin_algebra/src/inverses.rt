@@ -54,8 +54,8 @@ fn has_all_pivots<E>(basis: &[BasisRow<E>], n: usize) -> bool
     true
 }
 
-/// The identity matrix.
-fn identity<F: Field>(alloc: Global, field: &F, n: u64) -> Result<Matrix<F::Elem>, Memory>
+/// The identity matrix of n rows.
+pub fn identity<F: Field>(alloc: Global, field: &F, n: u64) -> Result<Matrix<F::Elem>, Memory>
     ensures matrix { IfOk result (IsMatrix (F.field field.now)) }
     ensures rows { IfOk result (λ m. m.rows ≡ n) }
     ensures cols { IfOk result (λ m. m.cols ≡ n) }

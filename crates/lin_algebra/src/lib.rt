@@ -11,7 +11,7 @@ mod rows;
 mod systems;
 
 pub use forms::{echelon, kernel};
-pub use inverses::inverse;
+pub use inverses::{identity, inverse};
 pub use laws::{echelon_is_unique, solution_is_unique};
 pub use matrix::{Echelon, Matrix};
 pub use products::multiply;

@@ -2,7 +2,7 @@ ghost use Rattle.std.specs.Prelude.{◌≡◌, All, IfOk};
 ghost use Rattle.alg_core.specs.Fields.{Has};
 ghost use Rattle.lin_algebra.specs.Matrices.{IsMatrix};
 
-use crate::{Matrix, echelon, inverse, kernel, multiply, solve};
+use crate::{Matrix, echelon, identity, inverse, kernel, multiply, solve};
 use alg_core::{Field, Memory};
 use prime_field::PrimeField;
 use std::alloc::Global;
@@ -137,6 +137,7 @@ fn examine_empty<F: Field<Elem = u16>>(
     let no_rows = matrix(rt, alloc, field, 3, 0, 3, &[])?;
     let no_columns = matrix(rt, alloc, field, 3, 3, 0, &[])?;
     let unit = matrix(rt, alloc, field, 3, 3, 3, &[1, 0, 0, 0, 1, 0, 0, 0, 1])?;
+    assert_eq!(rt; identity(alloc, field, 3)?, unit);
     assert_eq!(rt; echelon(alloc, field, &no_rows)?.matrix, no_rows);
     assert_eq!(rt; kernel(alloc, field, &no_rows)?, unit);
     let nothing = matrix(rt, alloc, field, 3, 0, 0, &[])?;
