@@ -1,3 +1,11 @@
+pub mod Cells
+pub mod Found
+pub mod Products
+pub mod Walks
+pub mod OrderLaws
+pub mod GroupLaws
+pub mod Insertions
+pub mod Turns
 pub mod FamilyLaws
 pub mod LinearForms
 pub mod ActionLaws

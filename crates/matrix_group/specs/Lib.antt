@@ -1,3 +1,4 @@
 pub mod Families
 pub mod Actions
 pub mod Groups
+pub mod Insertions

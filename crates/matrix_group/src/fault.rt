@@ -1,5 +1,5 @@
 use alg_core::Memory;
-use std::alloc::{AllocError, AllocFailed};
+use std::alloc::AllocFailed;
 use thiserror::Error;
 
 /// Why a group was not enumerated.
@@ -19,17 +19,6 @@ impl From<Memory> for GroupFault {
     ghost from_gives = { λ _ e. e ≡ faults.Memory };
 
     fn from(_: Memory) -> GroupFault {
-        GroupFault::Memory
-    }
-}
-
-impl From<AllocError> for GroupFault {
-    ghost use Rattle.std.specs.Prelude.{◌≡◌};
-    ghost use Rattle.matrix_group.specs.declared.fault.GroupFault.TheVariants as faults;
-
-    ghost from_gives = { λ _ e. e ≡ faults.Memory };
-
-    fn from(_: AllocError) -> GroupFault {
         GroupFault::Memory
     }
 }

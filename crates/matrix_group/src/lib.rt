@@ -2,12 +2,14 @@
 #![tactic(auto)]
 
 mod action;
+mod enumeration;
 mod fault;
 mod group;
 mod invariance;
 mod laws;
 
 pub use action::{act, row_form};
+pub use enumeration::enumerate;
 pub use fault::GroupFault;
 pub use group::Group;
 pub use invariance::is_invariant;
