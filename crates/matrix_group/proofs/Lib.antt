@@ -10,6 +10,7 @@ pub mod FamilyLaws
 pub mod LinearForms
 pub mod ActionLaws
 pub mod InvariantLaws
+pub mod GroupActions
 pub mod ActionSteps
 pub mod ImageLists
 pub mod FixedLaws

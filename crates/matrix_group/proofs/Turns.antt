@@ -14,7 +14,7 @@ use Rattle.matrix_group.specs.Groups.{size, cells_of, identity, times, with_new,
 use Rattle.matrix_group.specs.Insertions.{are_same}
 use Rattle.matrix_group.proofs.Cells.{times_is, identity_is}
 use Rattle.matrix_group.proofs.Insertions.{cells_put, square_put}
-use Rattle.matrix_group.proofs.Walks.{with_each, with_each_more, with_each_start, IsStage, stage_start, stage_part, stage_walk, stage_at, stage_over_order}
+use Rattle.matrix_group.proofs.Walks.{with_each, with_each_more, with_each_start, IsStage, stage_start, stage_part, stage_walk, stage_at, stage_over_order, walk_stage}
 
 -- an error that is handed on
 pub error_same : {X F : Type 0} (r : Result X F) (e y : F) → IsErrAnd r (λ x. x ≡ e) → r ≡ Err y → e ≡ y
@@ -151,3 +151,11 @@ module _ {E : Type 0} (k : FieldOn E) (n : ℕ) (gens : List (Matrix E)) (max : 
   turns_walk place keys is reached all =
       let end : place ≡ length (cells_of keys) = (let e = length-map keys (λ (x : Matrix E). x.cells.items) in omega (arith, e, reached, all)) in
       is ∙ ap (walk k n (cells_of gens)) end
+
+-- the matrices that are found have the size of the generators
+pub walk_size : {E : Type 0} (k : FieldOn E) (n : ℕ) (gens : List (List E)) (ms : List (Matrix E)) → All (IsSquare k n) ms → IsWalk k n gens (cells_of ms) → size ms ≡ n
+walk_size {E} k n gens ms square walked = go ms square (let some = (walk_stage k n gens (cells_of ms) walked).positive in let same = length-map ms (λ m. m.cells.items) in omega (arith, some, same))
+  where
+    go : (ms : List (Matrix E)) → All (IsSquare k n) ms → 0 < length ms → size ms ≡ n
+    go [] square some = absurd (omega arith)
+    go (m ∷ ms) square some = (square 0 m (omega arith)).rows

@@ -58,6 +58,7 @@ pub fn enumerate<F: Field>(
     requires invertible { All (HasInverse (F.field field.now)) gens.now }
     requires max { max + 1 < 2 ^ 64 }
     ensures square { IfOk result (All (IsSquare (F.field field.now) (size gens.now))) }
+    ensures size { IfOk result (λ g. size g ≡ size gens.now) }
     ensures elements { IfOk result (λ g. AreElements (F.field field.now) (size gens.now) (cells_of gens.now) (cells_of g)) }
     ensures walk { IfOk result (λ g. IsWalk (F.field field.now) (size gens.now) (cells_of gens.now) (cells_of g)) }
     ensures group { IfOk result (λ g. IsGroup (F.field field.now) (size gens.now) (cells_of g)) }

@@ -1,4 +1,4 @@
-ghost use Rattle.std.specs.Prelude.{◌≡◌, ◌≤◌, ℕ, List, replicate};
+ghost use Rattle.std.specs.Prelude.{◌≡◌, ◌≤◌, ◌<◌, ℕ, List, All, replicate};
 ghost use Rattle.alg_core.specs.Rings.{Homomorphism};
 ghost use Rattle.alg_core.specs.Fields.{Scalar, scalars};
 ghost use Rattle.alg_core.specs.Vectors.{Vect, plus, zero_vector, scale};
@@ -8,7 +8,8 @@ ghost use Rattle.poly_module.specs.Parts.{IsPolynomial, InVariables};
 ghost use Rattle.poly_module.specs.Forms.{IsForm};
 ghost use Rattle.lin_algebra.specs.declared.matrix.Matrix.{Matrix};
 ghost use Rattle.lin_algebra.specs.Matrices.{IsIdentity, product as matrix_product};
-ghost use Rattle.matrix_group.specs.Actions.{act, image, Invariant};
+ghost use Rattle.matrix_group.specs.Actions.{act, image, IsSquare, Invariant};
+ghost use Rattle.matrix_group.specs.Groups.{cells_of, entry, IsProduct, IsOrder, IsOverOrder};
 
 use alg_core::Field;
 
@@ -33,7 +34,8 @@ pub fn actions<F: Field>(_field: &F)
         (n : ℕ) (a : ℕ → ℕ → Scalar k) → IsIdentity (scalars k) n a → (u : Vect k) → IsPolynomial k u → act k n a u ≡ u }
 {}
 
-/// The invariants have 0, 1, sums, multiples and products.
+/// The invariants have 0, 1, sums, multiples and products; a polynomial that the generators fix is fixed
+/// by each finite product of them.
 pub fn invariants<F: Field>(_field: &F)
     ensures zero { let k = F.field _field.now in (gens : List (Matrix F.Elem)) → Invariant k gens (zero_vector k) }
     ensures one { let k = F.field _field.now in (gens : List (Matrix F.Elem)) → Invariant k gens (one_vector k) }
@@ -43,4 +45,17 @@ pub fn invariants<F: Field>(_field: &F)
         (gens : List (Matrix F.Elem)) (c : F.Elem) (u : Vect k) → Invariant k gens u → Invariant k gens (scale k c u) }
     ensures product { let k = F.field _field.now in
         (gens : List (Matrix F.Elem)) (u v : Vect k) → Invariant k gens u → Invariant k gens v → Invariant k gens (product k u v) }
+    ensures group { let k = F.field _field.now in
+        (n : ℕ) (gens : List (Matrix F.Elem)) → All (IsSquare k n) gens → (u : Vect k) → IsPolynomial k u → Invariant k gens u
+        → (g : List F.Elem) → IsProduct k n (cells_of gens) g → act k n (entry k n g) u ≡ u }
+{}
+
+/// A group has one order, which is over a bound exactly where there are more products than that.
+pub fn orders<F: Field>(_field: &F)
+    ensures one { let k = F.field _field.now in
+        (n : ℕ) (gens : List (List F.Elem)) (p q : ℕ) → IsOrder k n gens p → IsOrder k n gens q → p ≡ q }
+    ensures over { let k = F.field _field.now in
+        (n : ℕ) (gens : List (List F.Elem)) (p m : ℕ) → IsOrder k n gens p → IsOverOrder k n gens m → m < p }
+    ensures more { let k = F.field _field.now in
+        (n : ℕ) (gens : List (List F.Elem)) (p m : ℕ) → IsOrder k n gens p → m < p → IsOverOrder k n gens m }
 {}

@@ -13,7 +13,7 @@ pub use enumeration::enumerate;
 pub use fault::GroupFault;
 pub use group::Group;
 pub use invariance::is_invariant;
-pub use laws::{actions, invariants};
+pub use laws::{actions, invariants, orders};
 
 #[cfg(test)]
 mod tests;

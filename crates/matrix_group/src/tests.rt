@@ -1,12 +1,13 @@
-ghost use Rattle.std.specs.Prelude.{◌≡◌, ◌≤◌, IfOk, IsTrue, All, length, replicate};
+ghost use Rattle.std.specs.Prelude.{◌≡◌, ◌<◌, ◌≤◌, IfOk, IsTrue, All, length, replicate};
 ghost use Rattle.alg_core.specs.Fields.{Has};
 ghost use Rattle.alg_core.specs.Spaces.{over, place, entries, Fits, IsPlace};
 ghost use Rattle.poly_module.specs.GreatestExponents.{total};
 ghost use Rattle.matrix_group.specs.Actions.{IsSquare};
+ghost use Rattle.matrix_group.specs.Groups.{HasInverse, size};
 
-use crate::{act, is_invariant};
+use crate::{GroupFault, act, enumerate, is_invariant};
 use alg_core::{Dp, Field, Grading, ModTerm, Mono, Monomial, Space, Term, TermOrder};
-use lin_algebra::Matrix;
+use lin_algebra::{Matrix, inverse};
 use poly_module::{Poly, make};
 use prime_field::PrimeField;
 use std::alloc::Global;
@@ -243,5 +244,104 @@ fn asks_each_generator(rt: HostRuntime) -> Result<(), Fail> {
     assert!(rt; invariant(alloc, &space, &y, &[TRANSVECTION])?);
     assert!(rt; invariant(alloc, &space, &norm, &both)?);
     assert!(rt; invariant(alloc, &space, &x, &[])?);
+    Ok(())
+}
+
+/// The matrix with these cells, which is to have an inverse.
+fn invertible<F: Field<Elem = u16>>(
+    alloc: Global,
+    field: &F,
+    cells: &[u16; 4],
+) -> Result<Matrix<u16>, Fail>
+    ensures square { IfOk result (IsSquare (F.field field.now) 2) }
+    ensures invertible { IfOk result (HasInverse (F.field field.now)) }
+{
+    let m = square(alloc, field, cells)?;
+    match inverse(alloc, field, &m)? {
+        Some(_) => Ok(m),
+        None => Err(Fail::new("a singular matrix")),
+    }
+}
+
+/// The invertible matrices with these cells.
+fn generators<F: Field<Elem = u16>>(
+    alloc: Global,
+    field: &F,
+    lists: &[[u16; 4]],
+) -> Result<Vec<Matrix<u16>>, Fail>
+    ensures some { IfOk result (λ ms. 0 < length ms.items) }
+    ensures square { let k = F.field field.now in IfOk result (λ ms. All (IsSquare k (size ms.items)) ms.items) }
+    ensures invertible { let k = F.field field.now in IfOk result (λ ms. All (HasInverse k) ms.items) }
+{
+    let mut made = Vec::new(alloc);
+    for cells in lists {
+        made.push(invertible(alloc, field, cells)?)?;
+    }
+    if made.len() == 0 {
+        return Err(Fail::new("no matrix"));
+    }
+    Ok(made)
+}
+
+/// The cells of the elements, by `enumerate`; or how many were counted, where there are more than
+/// `max`.
+fn elements_of(
+    alloc: Global,
+    p: u32,
+    gens: &[[u16; 4]],
+    max: u32,
+) -> Result<Result<Vec<[u16; 4]>, u64>, Fail> {
+    let field = PrimeField::new(p).map_err(|_| "listed")?;
+    let gens = generators(alloc, &field, gens)?;
+    let group = match enumerate(alloc, &field, gens.as_slice(), u64::from(max)) {
+        Ok(group) => group,
+        Err(GroupFault::GroupBound { counted }) => return Ok(Err(counted)),
+        Err(GroupFault::Memory) => return Err(Fail::new("memory")),
+    };
+    let mut listed = Vec::new(alloc);
+    for m in group.elements() {
+        if m.cells.len() != 4 {
+            return Err(Fail::new("another size"));
+        }
+        listed.push([m.cells[0], m.cells[1], m.cells[2], m.cells[3]])?;
+    }
+    Ok(Ok(listed))
+}
+
+#[test]
+fn counts_the_elements(rt: HostRuntime) -> Result<(), Fail> {
+    let alloc = rt.alloc();
+    let table: [(u32, &[[u16; 4]], u32, Result<usize, u64>); 9] = [
+        (2, &[[1, 0, 0, 1]], 1, Ok(1)),
+        (2, &[[1, 0, 0, 1]], 0, Err(1)),
+        (2, &[[0, 1, 1, 0], [1, 1, 0, 1]], 6, Ok(6)),
+        (2, &[[0, 1, 1, 0], [1, 1, 0, 1]], 5, Err(6)),
+        (3, &[[0, 1, 2, 0], [1, 1, 1, 2]], 100, Ok(8)),
+        (3, &[[0, 1, 2, 0], [0, 1, 2, 0]], 100, Ok(4)),
+        (11, &[[2, 0, 0, 1]], 9, Err(10)),
+        (11, &[[2, 0, 0, 1]], 10, Ok(10)),
+        (257, &[[3, 0, 0, 1]], 1000, Ok(256)),
+    ];
+    for (p, gens, max, order) in table {
+        let counted = elements_of(alloc, p, gens, max)?.map(|listed| listed.len());
+        assert_eq!(rt; counted, order);
+    }
+    Ok(())
+}
+
+#[test]
+fn lists_elements_as_they_are_found(rt: HostRuntime) -> Result<(), Fail> {
+    let swap = [0, 1, 1, 0];
+    let transvection = [1, 1, 0, 1];
+    let listed = [
+        [1, 0, 0, 1],
+        swap,
+        transvection,
+        [0, 1, 1, 1],
+        [1, 1, 1, 0],
+        [1, 0, 1, 1],
+    ];
+    let found = elements_of(rt.alloc(), 2, &[swap, transvection], 6)?;
+    assert!(rt; found.is_ok_and(|found| found.as_slice() == listed.as_slice()));
     Ok(())
 }

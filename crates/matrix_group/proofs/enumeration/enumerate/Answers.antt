@@ -1,7 +1,8 @@
-use Rattle.std.proofs.Common.{Err, refl, sym, ap, subst, ◌∙◌, arith}
+use Rattle.std.proofs.Common.{All, Err, refl, sym, ap, subst, ◌∙◌, arith}
+use Rattle.matrix_group.specs.Actions.{IsSquare}
 use Rattle.matrix_group.specs.Groups.{size, cells_of, IsWalk, AreElements}
 use Rattle.matrix_group.proofs.GroupLaws.{matrices_invertible, elements_group}
-use Rattle.matrix_group.proofs.Turns.{error_same, turn_start, turn_square, turn_more, turn_over, turn_done, first_found, first_over, turns_walk}
+use Rattle.matrix_group.proofs.Turns.{error_same, turn_start, turn_square, turn_more, turn_over, turn_done, first_found, first_over, turns_walk, walk_size}
 use Rattle.matrix_group.proofs.Walks.{walk_elements}
 use Rattle.matrix_group.proofs.enumeration.enumerate.Goals as goal
 
@@ -79,3 +80,8 @@ pub returns-clause-group : goal.returns-clause-group
 returns-clause-group g c =
     elements_group (g.F.Field.field c.args.field.now) (size c.args.gens.now) (cells_of c.args.gens.now) (cells_of c.in_ok-group.group)
     (matrices_invertible (g.F.Field.field c.args.field.now) (size c.args.gens.now) c.args.gens.now c.requires.square c.requires.invertible) (are_elements g c)
+
+pub returns-clause-size : goal.returns-clause-size
+returns-clause-size g c =
+    walk_size (g.F.Field.field c.args.field.now) (size c.args.gens.now) (cells_of c.args.gens.now) c.in_ok-group.group
+    (subst (All (IsSquare (g.F.Field.field c.args.field.now) (size c.args.gens.now))) (sym c.in_ok-group.ensures.is) c.loop-place.invariant.square) (is_walk g c)
