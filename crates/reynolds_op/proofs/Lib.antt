@@ -1,0 +1,6 @@
+pub mod Members
+pub mod OnesLaws
+pub mod Sums
+pub mod GroupActions
+pub mod AverageLaws
+pub mod AverageSteps
