@@ -1,19 +1,25 @@
 -- The laws of the average over a group of matrices.
-use Rattle.std.proofs.Common.{◌≡◌, ℕ, List, [], ◌∷◌, length, map, sym, ap, ◌∙◌}
+use Rattle.std.proofs.Common.{◌≡◌, ◌↔◌, ◌≤◌, ℕ, List, [], ◌∷◌, length, map, replicate, All, sym, ap, ◌∙◌, subst}
 use Rattle.std.specs.Prelude.{Contains}
+use Rattle.std.proofs.lemmas.List.{length-map}
+use Rattle.std.proofs.lemmas.List.Elements.{All-contains}
 use Rattle.alg_core.specs.Fields.{FieldOn, Has, scalars, scalar, scalar_one, scalar_mul}
 use Rattle.alg_core.specs.Vectors.{Vect, vectors, plus, zero_vector, scale}
 use Rattle.alg_core.proofs.VectorLaws.{scale_plus, scale_zero_vector}
 use Rattle.poly_module.specs.Polynomials.{product}
 use Rattle.poly_module.specs.Products.{product_plus, product_zero, product_scale}
-use Rattle.poly_module.specs.Parts.{IsPolynomial, supp_zero, supp_plus, supp_scale}
-use Rattle.matrix_group.specs.Actions.{act}
-use Rattle.matrix_group.specs.Groups.{entry, times, IsGroup, AreApart}
-use Rattle.matrix_group.proofs.ActionLaws.{act_plus, act_zero, act_scale, act_product, act_polynomial}
-use Rattle.reynolds_op.specs.Averages.{ones, sum_over, average}
+use Rattle.poly_module.specs.Parts.{IsPolynomial, InVariables, supp_zero, supp_plus, supp_scale}
+use Rattle.poly_module.specs.Forms.{IsForm}
+use Rattle.lin_algebra.specs.declared.matrix.Matrix.{Matrix}
+use Rattle.matrix_group.specs.Actions.{act, IsSquare, Invariant}
+use Rattle.matrix_group.specs.Groups.{cells_of, entry, times, IsCells, IsGroup, AreElements, AreApart}
+use Rattle.matrix_group.proofs.ActionLaws.{act_plus, act_zero, act_scale, act_product, act_polynomial, act_in_variables, act_form}
+use Rattle.matrix_group.proofs.Cells.{cells_of_matrix}
+use Rattle.reynolds_op.specs.Averages.{ones, sum_of, sum_over, average, reynolds, Averaging, IsAveraging}
 use Rattle.reynolds_op.proofs.OnesLaws.{has_ones}
+use Rattle.reynolds_op.proofs.Members.{in_map_from}
 use Rattle.reynolds_op.proofs.Sums.{sum_same, sum_plus, sum_through, sum_constant, sum_members, sum_map}
-use Rattle.reynolds_op.proofs.GroupActions.{act_times, turned_apart, turned_in, in_turned}
+use Rattle.reynolds_op.proofs.GroupActions.{act_times, fixed_by_cells, fixed_by_matrices, fixed_by_product, generator_product, turned_apart, turned_in, in_turned}
 
 module _ {E : Type 0} (k : FieldOn E) where
   scale_commutes : (c d : E) (u : Vect k) → scale k c (scale k d u) ≡ scale k d (scale k c u)
@@ -73,6 +79,67 @@ module _ {E : Type 0} (k : FieldOn E) where
       pub average_polynomial : (u : Vect k) → IsPolynomial k (average k n c gs u)
       average_polynomial u = average_has (IsPolynomial k) (supp_zero k _) (supp_plus k _) (supp_scale k _) u (λ g. act_polynomial k n (entry k n g) u)
 
+      pub average_in_variables : (w : ℕ) → n ≤ w → (u : Vect k) → InVariables k w u → InVariables k w (average k n c gs u)
+      average_in_variables w le u h = average_has (InVariables k w) (supp_zero k _) (supp_plus k _) (supp_scale k _) u (λ g. act_in_variables k n (entry k n g) w le u h)
+
+      pub average_form : (w : ℕ) → n ≤ w → (d : ℕ) (u : Vect k) → InVariables k w u → IsForm k (replicate w 1) d u → IsForm k (replicate w 1) d (average k n c gs u)
+      average_form w le d u h form = average_has (IsForm k (replicate w 1) d) (supp_zero k _) (supp_plus k _) (supp_scale k _) u (λ g. act_form k n (entry k n g) w le d u h form)
+
     -- the order of the elements counts for nothing
     pub average_order : (c : E) (gs hs : List (List E)) → AreApart gs → AreApart hs → ((g : List E) → Contains gs g → Contains hs g) → ((g : List E) → Contains hs g → Contains gs g) → (u : Vect k) → average k n c gs u ≡ average k n c hs u
     average_order c gs hs p q to from u = ap (scale k c) (sum_members k (image u) gs hs p q to from)
+
+    module _ (R : Averaging E) (is : IsAveraging k n R) where
+      abbrev elements : List (List E)
+      elements = cells_of R.elements
+
+      inverse : k.mul R.factor (ones k (length elements)) ≡ k.one
+      inverse = ap (λ m. k.mul R.factor (ones k m)) (length-map R.elements (λ m. m.cells.items)) ∙ is.inverse
+
+      pub reynolds_invariant : (u : Vect k) → Invariant k R.elements (reynolds k n R u)
+      reynolds_invariant u = fixed_by_matrices k n R.elements is.elements.square (reynolds k n R u) (λ g c. average_invariant R.factor elements is.elements.group g c u)
+
+      reynolds_keeps : (u : Vect k) → Invariant k R.elements u → reynolds k n R u ≡ u
+      reynolds_keeps u h = average_fixed R.factor elements is.has inverse u (fixed_by_cells k n R.elements is.elements.square u h)
+
+      -- the invariants are what is its own average
+      pub reynolds_fixed : (u : Vect k) → Invariant k R.elements u ↔ (reynolds k n R u ≡ u)
+      reynolds_fixed u = (reynolds_keeps u, λ e. subst (Invariant k R.elements) e (reynolds_invariant u))
+
+      pub reynolds_over : (a u : Vect k) → Invariant k R.elements a → reynolds k n R (product k a u) ≡ product k a (reynolds k n R u)
+      reynolds_over a u h = average_over R.factor elements a u (fixed_by_cells k n R.elements is.elements.square a h)
+
+      -- a sum of as many equal vectors as there are elements, divided by their number
+      pub divided : (u : Vect k) → scale k R.factor (sum_of k (λ g. u) elements) ≡ u
+      divided u = ap (scale k R.factor) (sum_constant k u elements) ∙ scale_inverse R.factor (ones k (length elements)) is.has (has_ones k (length elements)) inverse u
+
+      module _ (gens : List (Matrix E)) (square : All (IsSquare k n) gens) (generated : AreElements k n (cells_of gens) elements) where
+        -- what the generators fix, the elements fix
+        by_generators : (u : Vect k) → IsPolynomial k u → Invariant k gens u → Invariant k R.elements u
+        by_generators u p h = fixed_by_matrices k n R.elements is.elements.square u (λ g c. fixed_by_product k n (cells_of gens) u p (fixed_by_cells k n gens square u h) g (generated.products g c))
+
+        by_elements : (u : Vect k) → Invariant k R.elements u → Invariant k gens u
+        by_elements u h = fixed_by_matrices k n gens square u (λ g c.
+            let m = in_map_from (λ m. m.cells.items) gens g c in
+            let cells : IsCells k n g = subst (IsCells k n) m.2 (cells_of_matrix k n m.0 (All-contains (IsSquare k n) gens m.0 square m.1)) in
+            fixed_by_cells k n R.elements is.elements.square u h g (generated.all g (generator_product k n (cells_of gens) g cells c)))
+
+        pub generated_invariant : (u : Vect k) → Invariant k gens (reynolds k n R u)
+        generated_invariant u = by_elements (reynolds k n R u) (reynolds_invariant u)
+
+        pub generated_fixed : (u : Vect k) → IsPolynomial k u → Invariant k gens u ↔ (reynolds k n R u ≡ u)
+        generated_fixed u p = (λ h. reynolds_keeps u (by_generators u p h), λ e. subst (Invariant k gens) e (generated_invariant u))
+
+        pub generated_over : (a u : Vect k) → IsPolynomial k a → Invariant k gens a → reynolds k n R (product k a u) ≡ product k a (reynolds k n R u)
+        generated_over a u p h = reynolds_over a u (by_generators a p h)
+
+    -- the same elements in another order
+    pub reynolds_order : (R S : Averaging E) → IsAveraging k n R → IsAveraging k n S → ((g : List E) → Contains (cells_of R.elements) g ↔ Contains (cells_of S.elements) g) → (u : Vect k) → reynolds k n R u ≡ reynolds k n S u
+    reynolds_order R S r s same u =
+        ap (scale k R.factor) (sum_members k (image u) (cells_of R.elements) (cells_of S.elements) r.elements.group.apart s.elements.group.apart (λ g. (same g).0) (λ g. (same g).1))
+        ∙ factors (sum_over k n (cells_of S.elements) u)
+      where
+        factors : (w : Vect k) → scale k R.factor w ≡ scale k S.factor w
+        factors w =
+            ap (scale k R.factor) (sym (divided S s w)) ∙ scale_commutes R.factor S.factor _
+            ∙ ap (scale k S.factor) (ap (scale k R.factor) (sym (sum_members k (λ g. w) (cells_of R.elements) (cells_of S.elements) r.elements.group.apart s.elements.group.apart (λ g. (same g).0) (λ g. (same g).1))) ∙ divided R r w)

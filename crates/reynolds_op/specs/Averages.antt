@@ -10,13 +10,12 @@
 --   IsMatrixGroup k n ms   ms are n by n matrices over the field, and a group
 --   IsAveraging k n R      the elements of R are such a group, and its factor is the inverse of the sum of as many ones as
 --                          there are elements
---   Generate k n gens ms   ms are the finite products of the n by n matrices gens, each once
 use Rattle.std.specs.Prelude.{◌≡◌, ℕ, List, [], ◌∷◌, All, length}
 use Rattle.alg_core.specs.Fields.{FieldOn, Has, sum_of_ones}
 use Rattle.alg_core.specs.Vectors.{Vect, plus, zero_vector, scale}
 use Rattle.lin_algebra.specs.declared.matrix.Matrix.{Matrix}
 use Rattle.matrix_group.specs.Actions.{act, IsSquare}
-use Rattle.matrix_group.specs.Groups.{cells_of, entry, IsGroup, AreElements}
+use Rattle.matrix_group.specs.Groups.{cells_of, entry, IsGroup}
 
 -- elements of a group of matrices, and a factor
 pub record Averaging (E : Type 0) : Type 0 where
@@ -51,8 +50,3 @@ module _ {E : Type 0} (k : FieldOn E) where
     pub elements : IsMatrixGroup n R.elements
     pub has : Has k R.factor
     pub inverse : k.mul R.factor (ones (length R.elements)) ≡ k.one
-
-  -- matrices that generate it
-  pub record Generate (n : ℕ) (gens ms : List (Matrix E)) : Type 0 where
-    pub square : All (IsSquare k n) gens
-    pub elements : AreElements k n (cells_of gens) (cells_of ms)
