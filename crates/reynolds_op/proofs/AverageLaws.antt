@@ -2,7 +2,6 @@
 use Rattle.std.proofs.Common.{◌≡◌, ◌↔◌, ◌≤◌, ℕ, List, [], ◌∷◌, length, map, replicate, All, sym, ap, ◌∙◌, subst}
 use Rattle.std.specs.Prelude.{Contains}
 use Rattle.std.proofs.lemmas.List.{length-map}
-use Rattle.std.proofs.lemmas.List.Elements.{All-contains}
 use Rattle.alg_core.specs.Fields.{FieldOn, Has, scalars, scalar, scalar_one, scalar_mul}
 use Rattle.alg_core.specs.Vectors.{Vect, vectors, plus, zero_vector, scale}
 use Rattle.alg_core.proofs.VectorLaws.{scale_plus, scale_zero_vector}
@@ -12,14 +11,13 @@ use Rattle.poly_module.specs.Parts.{IsPolynomial, InVariables, supp_zero, supp_p
 use Rattle.poly_module.specs.Forms.{IsForm}
 use Rattle.lin_algebra.specs.declared.matrix.Matrix.{Matrix}
 use Rattle.matrix_group.specs.Actions.{act, IsSquare, Invariant}
-use Rattle.matrix_group.specs.Groups.{cells_of, entry, times, IsCells, IsGroup, AreElements, AreApart}
+use Rattle.matrix_group.specs.Groups.{cells_of, entry, times, IsGroup, AreElements, AreApart}
 use Rattle.matrix_group.proofs.ActionLaws.{act_plus, act_zero, act_scale, act_product, act_polynomial, act_in_variables, act_form}
-use Rattle.matrix_group.proofs.Cells.{cells_of_matrix}
+use Rattle.matrix_group.proofs.GroupLaws.{elements_generators, matrices_cells}
 use Rattle.reynolds_op.specs.Averages.{ones, sum_of, sum_over, average, reynolds, Averaging, IsAveraging}
 use Rattle.reynolds_op.proofs.OnesLaws.{has_ones}
-use Rattle.reynolds_op.proofs.Members.{in_map_from}
 use Rattle.reynolds_op.proofs.Sums.{sum_same, sum_plus, sum_through, sum_constant, sum_members, sum_map}
-use Rattle.reynolds_op.proofs.GroupActions.{act_times, fixed_by_cells, fixed_by_matrices, fixed_by_product, generator_product, turned_apart, turned_in, in_turned}
+use Rattle.reynolds_op.proofs.GroupActions.{act_times, fixed_by_cells, fixed_by_matrices, fixed_by_product, turned_apart, turned_in, in_turned}
 
 module _ {E : Type 0} (k : FieldOn E) where
   scale_commutes : (c d : E) (u : Vect k) → scale k c (scale k d u) ≡ scale k d (scale k c u)
@@ -119,10 +117,7 @@ module _ {E : Type 0} (k : FieldOn E) where
         by_generators u p h = fixed_by_matrices k n R.elements is.elements.square u (λ g c. fixed_by_product k n (cells_of gens) u p (fixed_by_cells k n gens square u h) g (generated.products g c))
 
         by_elements : (u : Vect k) → Invariant k R.elements u → Invariant k gens u
-        by_elements u h = fixed_by_matrices k n gens square u (λ g c.
-            let m = in_map_from (λ m. m.cells.items) gens g c in
-            let cells : IsCells k n g = subst (IsCells k n) m.2 (cells_of_matrix k n m.0 (All-contains (IsSquare k n) gens m.0 square m.1)) in
-            fixed_by_cells k n R.elements is.elements.square u h g (generated.all g (generator_product k n (cells_of gens) g cells c)))
+        by_elements u h = fixed_by_matrices k n gens square u (λ g c. fixed_by_cells k n R.elements is.elements.square u h g (elements_generators k n (cells_of gens) elements (matrices_cells k n gens square) generated g c))
 
         pub generated_invariant : (u : Vect k) → Invariant k gens (reynolds k n R u)
         generated_invariant u = by_elements (reynolds k n R u) (reynolds_invariant u)

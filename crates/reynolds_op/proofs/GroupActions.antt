@@ -1,9 +1,8 @@
 -- The action of a group of matrices: products, the identity, and multiplication of the elements by one of them.
-use Rattle.std.proofs.Common.{◌≡◌, ℕ, ◌<◌, ◌≤◌, ◌⊎◌, inl, inr, List, [], ◌∷◌, map, get_or, sym, ap, ap₂, ◌∙◌, subst}
+use Rattle.std.proofs.Common.{◌≡◌, ℕ, ◌<◌, ◌≤◌, ◌⊎◌, inl, inr, List, map, get_or, sym, ap, ap₂, ◌∙◌, subst}
 use Rattle.std.specs.Prelude.{Contains, All}
-use Rattle.std.specs.List.{fold}
 use Rattle.std.proofs.lemmas.Bool.{cases_lt}
-use Rattle.std.proofs.lemmas.List.Elements.{All-contains, All-head, All-tail, All-cons, All-nil, Contains-get_or}
+use Rattle.std.proofs.lemmas.List.Elements.{All-contains, Contains-get_or}
 use Rattle.alg_core.specs.Fields.{FieldOn, Scalar}
 use Rattle.alg_core.specs.Vectors.{Vect}
 use Rattle.poly_module.specs.Parts.{IsPolynomial}
@@ -13,8 +12,10 @@ use Rattle.matrix_group.specs.Families.{family_value}
 use Rattle.matrix_group.specs.Groups.{cells_of, entry, identity, times, IsCells, IsGroup, IsProduct, AreApart}
 use Rattle.matrix_group.proofs.LinearForms.{linear_form_agree, image_inside, image_outside}
 use Rattle.matrix_group.proofs.ActionLaws.{act_act, act_identity}
-use Rattle.matrix_group.proofs.Cells.{entry_times, entry_identity, entries_of_matrix, times_assoc, times_identity, identity_times}
-use Rattle.reynolds_op.proofs.Members.{in_map, in_map_from, apart_map}
+use Rattle.matrix_group.proofs.Cells.{entry_times, entry_identity, entries_of_matrix}
+use Rattle.matrix_group.proofs.Found.{Contains_map, Contains_of_map, AreApart_map}
+use Rattle.matrix_group.proofs.Products.{products_induction}
+use Rattle.matrix_group.proofs.GroupLaws.{right_translation, right_cancel}
 
 module _ {E : Type 0} (k : FieldOn E) (n : ℕ) where
   -- the action depends on the first n entries of the first n rows
@@ -41,45 +42,28 @@ module _ {E : Type 0} (k : FieldOn E) (n : ℕ) where
   -- fixed by each of the matrices, and by each list of cells
   pub fixed_by_cells : (ms : List (Matrix E)) → All (IsSquare k n) ms → (u : Vect k) → Invariant k ms u → (g : List E) → Contains (cells_of ms) g → act k n (entry k n g) u ≡ u
   fixed_by_cells ms square u fixed g c =
-      let r = in_map_from (λ m. m.cells.items) ms g c in
+      let r = Contains_of_map (λ m. m.cells.items) ms g c in
       ap (λ h. act k n (entry k n h) u) (sym r.2) ∙ sym (act_cells r.0 (All-contains (IsSquare k n) ms r.0 square r.1) u) ∙ All-contains (λ m. act_by k m u ≡ u) ms r.0 fixed r.1
 
   pub fixed_by_matrices : (ms : List (Matrix E)) → All (IsSquare k n) ms → (u : Vect k) → ((g : List E) → Contains (cells_of ms) g → act k n (entry k n g) u ≡ u) → Invariant k ms u
   fixed_by_matrices ms square u fixed i m l =
       let here = get_or ms i m in
-      act_cells here (square i m l) u ∙ fixed here.cells.items (in_map (λ m. m.cells.items) ms here (Contains-get_or ms i m l))
+      act_cells here (square i m l) u ∙ fixed here.cells.items (Contains_map (λ m. m.cells.items) ms here (Contains-get_or ms i m l))
 
   -- what the generators fix, their products fix
   pub fixed_by_product : (gens : List (List E)) (u : Vect k) → IsPolynomial k u → ((g : List E) → Contains gens g → act k n (entry k n g) u ≡ u) → (g : List E) → IsProduct k n gens g → act k n (entry k n g) u ≡ u
-  fixed_by_product gens u p fixed g is = ap (λ h. act k n (entry k n h) u) is.2 ∙ go is.0 (identity k n) (act_one u p) is.1
-    where
-      go : (gs : List (List E)) (h : List E) → act k n (entry k n h) u ≡ u → All (Contains gens) gs → act k n (entry k n (fold (times k n) h gs)) u ≡ u
-      go [] h e all = e
-      go (x ∷ gs) h e all = go gs (times k n h x) (sym (act_times h x u) ∙ ap (act k n (entry k n x)) e ∙ fixed x (All-head (Contains gens) x gs all)) (All-tail (Contains gens) x gs all)
-
-  -- a generator is a product
-  pub generator_product : (gens : List (List E)) (g : List E) → IsCells k n g → Contains gens g → IsProduct k n gens g
-  generator_product gens g h c = (g ∷ [], All-cons (Contains gens) g [] c (All-nil (Contains gens)), sym (identity_times k n g h))
+  fixed_by_product gens u p fixed = products_induction k n gens (λ g. act k n (entry k n g) u ≡ u) (act_one u p) (λ g m e c. sym (act_times g m u) ∙ ap (act k n (entry k n m)) e ∙ fixed m c)
 
   module _ (gs : List (List E)) (is : IsGroup k n gs) (h : List E) (member : Contains gs h) where
     abbrev turned : List (List E)
     turned = map (λ g. times k n g h) gs
 
-    cells : (g : List E) → Contains gs g → IsCells k n g
-    cells g c = All-contains (IsCells k n) gs g is.cells c
-
-    -- back by the inverse
-    undone : (g t : List E) → Contains gs g → times k n h t ≡ identity k n → times k n (times k n g h) t ≡ g
-    undone g t c e = times_assoc k n g h t ∙ ap (times k n g) e ∙ times_identity k n g (cells g c)
-
     -- multiplication by an element permutes the elements
     pub turned_apart : AreApart turned
-    turned_apart = let t = is.inverses h member in
-        apart_map (λ g. times k n g h) gs (λ x y c d e. sym (undone x t.0 c t.2) ∙ ap (λ z. times k n z t.0) e ∙ undone y t.0 d t.2) is.apart
+    turned_apart = AreApart_map (λ g. times k n g h) gs (λ x y c d. right_cancel k n gs is h member x y (All-contains (IsCells k n) gs x is.cells c) (All-contains (IsCells k n) gs y is.cells d)) is.apart
 
     pub turned_in : (g : List E) → Contains turned g → Contains gs g
-    turned_in g c = let r = in_map_from (λ g. times k n g h) gs g c in subst (Contains gs) r.2 (is.products r.0 h r.1 member)
+    turned_in g c = let r = Contains_of_map (λ g. times k n g h) gs g c in subst (Contains gs) r.2 (is.products r.0 h r.1 member)
 
     pub in_turned : (g : List E) → Contains gs g → Contains turned g
-    in_turned g c = let t = is.inverses h member in
-        subst (Contains turned) (times_assoc k n g t.0 h ∙ ap (times k n g) t.3 ∙ times_identity k n g (cells g c)) (in_map (λ g. times k n g h) gs (times k n g t.0) (is.products g t.0 c t.1))
+    in_turned g c = let r = right_translation k n gs is h member g c in subst (Contains turned) r.2 (Contains_map (λ g. times k n g h) gs r.0 r.1)
