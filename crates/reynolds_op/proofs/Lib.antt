@@ -1,5 +1,6 @@
 pub mod Members
 pub mod OnesLaws
+pub mod MatrixGroups
 pub mod Sums
 pub mod GroupActions
 pub mod AverageLaws

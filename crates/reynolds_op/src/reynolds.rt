@@ -15,8 +15,8 @@ use poly_module::{Poly, add, make, scale};
 use std::alloc::Global;
 use std::marker::Model;
 
-/// The Reynolds operator of a finite group of matrices, where the characteristic of the field does
-/// not divide the order N of the group: it takes f to R(f) = (1/N)·Σ f∘g over the elements g.
+/// The Reynolds operator R(f) = (1/N)·Σ f∘g over the N elements g of a finite group of n by n
+/// matrices, where the characteristic of the field does not divide N.
 /// (Derksen and Kemper, Computational Invariant Theory, section 2.2.)
 #[derive(Drop)]
 pub struct Reynolds<'g, E> {
@@ -70,7 +70,8 @@ fn sum_of_images<F: Field, O: TermOrder>(
 }
 
 impl<'g, E: Copy> Reynolds<'g, E> {
-    /// The Reynolds operator of the group; None exactly where the characteristic divides its order.
+    /// The Reynolds operator of the group of n by n matrices; None exactly where the characteristic of
+    /// the field divides the order of the group. Takes no memory.
     pub fn of<F: Field<Elem = E>>(field: &F, group: &'g Group<E>) -> Option<Reynolds<'g, E>>
         requires group { IsMatrixGroup (F.field field.now) (size group.now) group.now }
         ensures none { IsNone result ↔ ((F.field field.now).characteristic ∣ length group.now) }
@@ -82,7 +83,8 @@ impl<'g, E: Copy> Reynolds<'g, E> {
         Some(Reynolds { group, factor })
     }
 
-    /// The average R(f) of the images of f under the elements of the group.
+    /// The average R(f) of the images of f under the elements, in the space of f, which has at least n
+    /// variables. The images are made and added up one after another.
     pub fn apply<F: Field<Elem = E>, O: TermOrder>(
         &self,
         alloc: Global,
