@@ -1,0 +1,37 @@
+-- Steps of the computation of an average.
+use Rattle.std.proofs.Common.{◌≡◌, ℕ, ◌+◌, ◌<◌, List, [], ◌∷◌, ◌++◌, length, take, get_or, All, sym, ap, ap₂, ◌∙◌, subst}
+use Rattle.std.proofs.lemmas.List.{take_more, map-append}
+use Rattle.alg_core.specs.Fields.{FieldOn}
+use Rattle.alg_core.specs.Keys.{key}
+use Rattle.alg_core.specs.Vectors.{Vect, Entry, vec, plus, zero_vector, scale}
+use Rattle.alg_core.specs.Spaces.{SpaceOver, Fits}
+use Rattle.alg_core.proofs.VectorLaws.{plus_zero, vec_nothing}
+use Rattle.poly_module.proofs.ExponentBounds.{fits_keys}
+use Rattle.poly_module.specs.Parts.{IsPolynomial}
+use Rattle.lin_algebra.specs.declared.matrix.Matrix.{Matrix}
+use Rattle.matrix_group.specs.Actions.{IsSquare, act_by}
+use Rattle.matrix_group.specs.Groups.{cells_of}
+use Rattle.reynolds_op.specs.Averages.{sum_over}
+use Rattle.reynolds_op.proofs.Sums.{sum_append}
+use Rattle.reynolds_op.proofs.GroupActions.{act_cells}
+use Rattle.reynolds_op.proofs.AverageLaws.{average_polynomial}
+
+module _ {E : Type 0} (k : FieldOn E) where
+  -- the sum of no terms
+  pub sum_start : (es : List (Entry E)) (v : Vect k) → es ≡ [] → v ≡ vec k es → v ≡ zero_vector k
+  sum_start es v none is = is ∙ ap (vec k) none ∙ vec_nothing k
+
+  -- one image more
+  pub sum_step : (n i : ℕ) (ms : List (Matrix E)) (m : Matrix E) (u sum image new : Vect k) → i < length ms → m ≡ get_or ms i m → All (IsSquare k n) ms
+      → sum ≡ sum_over k n (cells_of (take i ms)) u → image ≡ act_by k m u → new ≡ plus k sum image → new ≡ sum_over k n (cells_of (take (i + 1) ms)) u
+  sum_step n i ms m u sum image new inside read square was acted is =
+      let own : IsSquare k n m = subst (IsSquare k n) (sym read) (square i m inside) in
+      let more : take (i + 1) ms ≡ take i ms ++ m ∷ [] = take_more ms i m inside ∙ ap (λ x. take i ms ++ x ∷ []) (sym read) in
+      is ∙ ap₂ (plus k) was (acted ∙ act_cells k n m own u ∙ sym (plus_zero k _)) ∙ sym (sum_append k _ (cells_of (take i ms)) (m.cells.items ∷ []))
+      ∙ ap (λ l. sum_over k n l u) (sym (ap cells_of more ∙ map-append (λ x. x.cells.items) (take i ms) (m ∷ [])))
+
+-- an average is a polynomial
+pub positions_of_average : {E : Type 0} (S : SpaceOver E) (n : ℕ) (c : E) (gs : List (List E)) (u sum : Vect S.field) (es : List (Entry E)) → Fits S es → vec S.field es ≡ scale S.field c sum → sum ≡ sum_over S.field n gs u → All (λ e. e.0.0 ≡ 0) es
+unfolding key
+positions_of_average S n c gs u sum es fits is was =
+    fits_keys S (λ t. t.0 ≡ 0) es fits (subst (IsPolynomial S.field) (sym (is ∙ ap (scale S.field c) was)) (average_polynomial S.field n c gs u))

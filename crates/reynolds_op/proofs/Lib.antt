@@ -1,0 +1,7 @@
+pub mod Members
+pub mod OnesLaws
+pub mod MatrixGroups
+pub mod Sums
+pub mod GroupActions
+pub mod AverageLaws
+pub mod AverageSteps

@@ -1,0 +1,12 @@
+use Rattle.std.proofs.Common.{◌≡◌}
+use Rattle.alg_core.specs.Fields.{Has}
+use Rattle.reynolds_op.specs.Averages.{ones}
+use Rattle.reynolds_op.proofs.reynolds.sum_of_ones.Given as goal
+
+abbrev pub invariant-loop : goal.invariant-loop
+invariant-loop g l =
+    let k = g.F.Field.field l.field in
+    record {
+      is : l.sum ≡ ones k l.counter;
+      has : Has k l.sum;
+    }

@@ -1,0 +1,52 @@
+-- The Reynolds operator of a finite group of matrices: the average of the images of a polynomial under the elements.
+-- A matrix of n rows and n columns is here the list of its cells, row after row.
+--
+--   ones k N               the sum of N ones
+--   sum_of k f xs          the sum of the values of f at the members of xs
+--   sum_over k n gs u      the sum of the images of u under the matrices with the cells gs
+--   average k n c gs u     c times that sum
+--   Averaging E            elements of a group of matrices, and a factor
+--   reynolds k n R u       the factor of R times the sum of the images of u under the elements of R
+--   IsMatrixGroup k n ms   ms are n by n matrices over the field, and a group
+--   IsAveraging k n R      the elements of R are such a group, and its factor is the inverse of the sum of as many ones as
+--                          there are elements
+use Rattle.std.specs.Prelude.{◌≡◌, ℕ, List, [], ◌∷◌, All, length}
+use Rattle.alg_core.specs.Fields.{FieldOn, Has, sum_of_ones}
+use Rattle.alg_core.specs.Vectors.{Vect, plus, zero_vector, scale}
+use Rattle.lin_algebra.specs.declared.matrix.Matrix.{Matrix}
+use Rattle.matrix_group.specs.Actions.{act, IsSquare}
+use Rattle.matrix_group.specs.Groups.{cells_of, entry, IsGroup}
+
+-- elements of a group of matrices, and a factor
+pub record Averaging (E : Type 0) : Type 0 where
+  pub elements : List (Matrix E)
+  pub factor : E
+
+module _ {E : Type 0} (k : FieldOn E) where
+  abbrev pub ones : ℕ → E
+  ones = sum_of_ones k.add k.zero k.one
+
+  abbrev pub sum_of : {A : Type 0} → (A → Vect k) → List A → Vect k
+  sum_of f [] = zero_vector k
+  sum_of f (x ∷ xs) = plus k (f x) (sum_of f xs)
+
+  -- the sum of the images under matrices
+  abbrev pub sum_over : ℕ → List (List E) → Vect k → Vect k
+  sum_over n gs u = sum_of (λ g. act k n (entry k n g) u) gs
+
+  abbrev pub average : ℕ → E → List (List E) → Vect k → Vect k
+  average n c gs u = scale k c (sum_over n gs u)
+
+  abbrev pub reynolds : ℕ → Averaging E → Vect k → Vect k
+  reynolds n R = average n R.factor (cells_of R.elements)
+
+  -- a group of n by n matrices over the field
+  pub record IsMatrixGroup (n : ℕ) (ms : List (Matrix E)) : Type 0 where
+    pub square : All (IsSquare k n) ms
+    pub group : IsGroup k n (cells_of ms)
+
+  -- its elements, and the inverse of their number in the field
+  pub record IsAveraging (n : ℕ) (R : Averaging E) : Type 0 where
+    pub elements : IsMatrixGroup n R.elements
+    pub has : Has k R.factor
+    pub inverse : k.mul R.factor (ones (length R.elements)) ≡ k.one
