@@ -17,7 +17,7 @@ use Rattle.matrix_group.proofs.GroupLaws.{elements_generators, matrices_cells}
 use Rattle.reynolds_op.specs.Averages.{ones, sum_of, sum_over, average, reynolds, Averaging, IsAveraging}
 use Rattle.reynolds_op.proofs.OnesLaws.{has_ones}
 use Rattle.reynolds_op.proofs.Sums.{sum_same, sum_plus, sum_through, sum_constant, sum_members, sum_map}
-use Rattle.reynolds_op.proofs.GroupActions.{act_times, fixed_by_cells, fixed_by_matrices, fixed_by_product, turned_apart, turned_in, in_turned}
+use Rattle.matrix_group.proofs.GroupActions.{act_times, fixed_by_cells, fixed_by_matrices, fixed_by_product, turned_apart, turned_in, in_turned}
 
 module _ {E : Type 0} (k : FieldOn E) where
   scale_commutes : (c d : E) (u : Vect k) → scale k c (scale k d u) ≡ scale k d (scale k c u)

@@ -13,7 +13,7 @@ use Rattle.matrix_group.specs.Actions.{IsSquare, act_by}
 use Rattle.matrix_group.specs.Groups.{cells_of}
 use Rattle.reynolds_op.specs.Averages.{sum_over}
 use Rattle.reynolds_op.proofs.Sums.{sum_append}
-use Rattle.reynolds_op.proofs.GroupActions.{act_cells}
+use Rattle.matrix_group.proofs.GroupActions.{act_cells}
 use Rattle.reynolds_op.proofs.AverageLaws.{average_polynomial}
 
 module _ {E : Type 0} (k : FieldOn E) where

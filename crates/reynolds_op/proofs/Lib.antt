@@ -2,6 +2,5 @@ pub mod Members
 pub mod OnesLaws
 pub mod MatrixGroups
 pub mod Sums
-pub mod GroupActions
 pub mod AverageLaws
 pub mod AverageSteps
