@@ -1,8 +1,9 @@
 -- The order of a group: there is one, and it is above each number that is passed.
-use Rattle.std.proofs.Common.{◌≡◌, ℕ, ◌+◌, ◌<◌, List, length, take, sym, ◌∙◌, refl, arith}
+use Rattle.std.proofs.Common.{◌≡◌, ℕ, ◌+◌, ◌<◌, List, length, take, sym, ap, ◌∙◌, refl, arith}
 use Rattle.std.proofs.lemmas.List.{length-take-le}
 use Rattle.alg_core.specs.Fields.{FieldOn}
-use Rattle.matrix_group.specs.Groups.{AreElements, IsOrder, IsOverOrder}
+use Rattle.matrix_group.specs.Groups.{AreElements, IsOrder, IsOverOrder, walk, IsWalk}
+use Rattle.matrix_group.proofs.Walks.{walk_elements}
 use Rattle.matrix_group.proofs.Found.{Contains_take, AreApart_take, AreApart_length, AreApart_same_length}
 
 module _ {E : Type 0} (k : FieldOn E) (n : ℕ) (gens : List (List E)) where
@@ -18,3 +19,8 @@ module _ {E : Type 0} (k : FieldOn E) (n : ℕ) (gens : List (List E)) where
   -- the first m + 1 of them
   pub order_over : (N m : ℕ) → IsOrder k n gens N → m < N → IsOverOrder k n gens m
   order_over N m (gs, a, e) h = (take (m + 1) gs, AreApart_take (m + 1) gs a.apart, λ x c. a.products x (Contains_take (m + 1) gs x c), length-take-le (m + 1) gs (omega arith))
+
+  -- there is one list in the order of the walk
+  pub walk_unique : (gs hs : List (List E)) → IsWalk k n gens gs → IsWalk k n gens hs → gs ≡ hs
+  walk_unique gs hs w v =
+      w ∙ ap (walk k n gens) (order_unique (length gs) (length hs) (elements_order gs (walk_elements k n gens gs w)) (elements_order hs (walk_elements k n gens hs v))) ∙ sym v

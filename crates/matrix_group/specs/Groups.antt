@@ -2,6 +2,7 @@
 --
 --   cells_of ms              the cells of each matrix
 --   entry k n g              the scalar at a row and a column, 0 outside the matrix
+--   is_yes d                 whether the answer d is yes
 --   made k n a               the cells with the scalar a i j at row i and column j
 --   identity k n             the identity
 --   times k n g h            the product

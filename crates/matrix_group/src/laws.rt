@@ -9,7 +9,7 @@ ghost use Rattle.poly_module.specs.Forms.{IsForm};
 ghost use Rattle.lin_algebra.specs.declared.matrix.Matrix.{Matrix};
 ghost use Rattle.lin_algebra.specs.Matrices.{IsIdentity, product as matrix_product};
 ghost use Rattle.matrix_group.specs.Actions.{act, image, IsSquare, Invariant};
-ghost use Rattle.matrix_group.specs.Groups.{cells_of, entry, IsProduct, IsOrder, IsOverOrder};
+ghost use Rattle.matrix_group.specs.Groups.{cells_of, entry, IsProduct, IsOrder, IsOverOrder, IsWalk};
 
 use alg_core::Field;
 
@@ -50,7 +50,8 @@ pub fn invariants<F: Field>(_field: &F)
         → (g : List F.Elem) → IsProduct k n (cells_of gens) g → act k n (entry k n g) u ≡ u }
 {}
 
-/// A group has one order, which is over a bound exactly where there are more products than that.
+/// A group has one order, which is over a bound exactly where there are more products than that; and
+/// one list of its elements in the order in which they are found.
 pub fn orders<F: Field>(_field: &F)
     ensures one { let k = F.field _field.now in
         (n : ℕ) (gens : List (List F.Elem)) (p q : ℕ) → IsOrder k n gens p → IsOrder k n gens q → p ≡ q }
@@ -58,4 +59,6 @@ pub fn orders<F: Field>(_field: &F)
         (n : ℕ) (gens : List (List F.Elem)) (p m : ℕ) → IsOrder k n gens p → IsOverOrder k n gens m → m < p }
     ensures more { let k = F.field _field.now in
         (n : ℕ) (gens : List (List F.Elem)) (p m : ℕ) → IsOrder k n gens p → m < p → IsOverOrder k n gens m }
+    ensures list { let k = F.field _field.now in
+        (n : ℕ) (gens gs hs : List (List F.Elem)) → IsWalk k n gens gs → IsWalk k n gens hs → gs ≡ hs }
 {}
