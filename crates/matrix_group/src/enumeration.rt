@@ -42,11 +42,13 @@ fn group_of<E: Copy + Eq + Hash>(
     Ok(Group::of(elements))
 }
 
-/// The elements of the group that the matrices generate: first the identity; then, from each element
-/// in turn, its products with each generator on the right, in their order, as far as they are new.
+/// The group that n by n matrices generate: all of their finite products, each once. The identity is
+/// the first element; then each element in turn is multiplied from the right by each generator, in the
+/// order of the generators, and what is new goes last.
 ///
-/// GroupBound says that there are more than `max`. The elements take all of the memory; each is
-/// multiplied once by each generator.
+/// GroupBound comes where there are more than `max` elements; it counts `max` + 1, as many as were
+/// found then. Each element is kept once and multiplied once by each generator.
+/// (The orbit of the identity under multiplication from the right.)
 pub fn enumerate<F: Field>(
     alloc: Global,
     field: &F,
