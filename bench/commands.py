@@ -1,7 +1,9 @@
 #!/usr/bin/env python3
 """Times whole commands on given scripts and prints a table: seconds (least and median of some runs)
-and the peak of memory. Beside them Singular's finvar.lib on the same task, where it is installed, as
-a ratio in the same run. Outside the gate; run it on an idle machine."""
+and the peak of memory. Beside them Singular's finvar.lib on the same task, where it is installed and
+has a procedure for the task alone, as a ratio in the same run. Outside the gate; run it on an idle
+machine."""
+import math
 import os
 import shutil
 import statistics
@@ -14,25 +16,40 @@ TOP = os.path.dirname(os.path.dirname(os.path.abspath(__file__)))
 PROGRAM = os.path.join(TOP, "crates", "invring", "out", "invring")
 
 
+def images(variables, signs=()):
+    """The cells of the matrix that puts variable variables[i] for variable i, or -1 times it for each i in signs."""
+    sign = lambda i: "-" if i in signs else ""
+    return [sign(i) + "1" if j == to else "0" for i, to in enumerate(variables) for j in range(len(variables))]
+
+
 def swaps(pairs):
-    n = 2 * pairs
-    names = "abcdefghijklmnop"[:n]
-    cells = ["1" if j == i ^ 1 else "0" for i in range(n) for j in range(n)]
-    return names, cells
+    return images([i ^ 1 for i in range(2 * pairs)])
 
 
-def script(p, names, cells):
-    n = len(names)
-    return f"ring R={p},({','.join(names)}),dp; matrix A[{n}][{n}]={','.join(cells)};"
-
-
-SHIFT = list("010001100")
+# Signs and permutations of two blocks of four: 2^8 times 32 elements.
+BLOCKS = [images(range(8), [0]), images([1, 2, 3, 0, 4, 5, 6, 7]), images([4, 5, 6, 7, 0, 1, 2, 3])]
+SHIFT = images([1, 2, 0])
 CASES = [
-    ("swap of two over GF(2), degree 2", 2, "xy", list("0110"), 2),
-    ("shift of three over GF(3), degree 30", 3, "xyz", SHIFT, 30),
-    ("shift of three over GF(3), degree 61", 3, "xyz", SHIFT, 61),
-    ("four swaps over GF(2), degree 4", 2, *swaps(4), 4),
+    ("swap of two over GF(2), degree 2", 2, [swaps(1)], ["basis", "2"]),
+    ("shift of three over GF(3), degree 30", 3, [SHIFT], ["basis", "30"]),
+    ("shift of three over GF(3), degree 61", 3, [SHIFT], ["basis", "61"]),
+    ("four swaps over GF(2), degree 4", 2, [swaps(4)], ["basis", "4"]),
+    ("order 8192 in size 8 over GF(3)", 3, BLOCKS, ["order"]),
 ]
+
+
+def names_of(matrices):
+    """As many names as the matrices have rows."""
+    return "abcdefgh"[:math.isqrt(len(matrices[0]))]
+
+
+def declared(matrices):
+    n = len(names_of(matrices))
+    return " ".join(f"matrix M{i}[{n}][{n}]={','.join(cells)};" for i, cells in enumerate(matrices))
+
+
+def script(p, matrices):
+    return f"ring R={p},({','.join(names_of(matrices))}),dp; {declared(matrices)}"
 
 
 def run(words, text):
@@ -51,10 +68,12 @@ def run(words, text):
     return seconds, usage.ru_maxrss / 1024, lines
 
 
-def singular(p, names, cells, degree):
-    n = len(names)
-    return (f'LIB "finvar.lib"; ring R={p},({",".join(names)}),dp; matrix A[{n}][{n}]={",".join(cells)};'
-            f" ideal B=invariant_basis({degree},A); size(B); quit;")
+def singular(p, matrices, words):
+    """The same task for Singular, or None where it has no procedure for it."""
+    if words[0] != "basis":
+        return None
+    gens = ",".join(f"M{i}" for i in range(len(matrices)))
+    return f'LIB "finvar.lib"; {script(p, matrices)} ideal B=invariant_basis({words[1]},{gens}); size(B); quit;'
 
 
 def main():
@@ -63,16 +82,17 @@ def main():
     runs = int(sys.argv[1]) if len(sys.argv) > 1 else 5
     other = shutil.which("Singular")
     print(f"{'task':<40} {'least s':>8} {'median s':>9} {'MB':>6} {'lines':>6} {'Singular/ours':>14}")
-    for name, p, names, cells, degree in CASES:
-        text = script(p, names, cells)
-        got = [run([PROGRAM, "basis", str(degree)], text) for _ in range(runs)]
+    for name, p, matrices, words in CASES:
+        text = script(p, matrices)
+        got = [run([PROGRAM, *words], text) for _ in range(runs)]
         if None in got:
             print(f"{name:<40} failed")
             continue
         least = min(g[0] for g in got)
-        ratio = "not installed"
-        if other:
-            theirs = [run([other, "-q"], singular(p, names, cells, degree)) for _ in range(runs)]
+        task = singular(p, matrices, words)
+        ratio = "no such task" if task is None else "not installed"
+        if other and task:
+            theirs = [run([other, "-q"], task) for _ in range(runs)]
             ratio = "failed" if None in theirs else f"{min(t[0] for t in theirs) / least:.1f}"
         median = statistics.median(g[0] for g in got)
         print(f"{name:<40} {least:8.3f} {median:9.3f} {max(g[1] for g in got):6.0f} {got[0][2]:6d} {ratio:>14}")

@@ -1,6 +1,5 @@
 -- The lines of a basis, and the names of its variables.
-use Rattle.std.proofs.Common.{◌≡◌, ℕ, suc, ◌+◌, ◌-◌, ◌*◌, Ok, Err, Result, ◌<◌, ◌≤◌, List, [], ◌∷◌, ◌++◌, length, map, take, get_or, slice_index, replicate, zero, All, None, sym, ap, ap₂, ◌∙◌, refl, subst, append-nil, arith}
-use Rattle.std.specs.Result.{IsErrAnd}
+use Rattle.std.proofs.Common.{◌≡◌, ℕ, suc, ◌+◌, ◌-◌, ◌*◌, ◌<◌, ◌≤◌, List, [], ◌∷◌, ◌++◌, length, map, take, get_or, slice_index, replicate, zero, All, None, sym, ap, ap₂, ◌∙◌, refl, subst, append-nil, arith}
 use Rattle.std.proofs.lemmas.Bool.{lt-ltb}
 use Rattle.std.proofs.lemmas.List.Elements.{All-map, All-weaker}
 use Rattle.std.proofs.lemmas.List.{append_assoc, take_more, map-append, length-replicate, length-append, get_or-append-add}
@@ -13,7 +12,6 @@ use Rattle.poly_text.specs.Texts.{polynomial_text}
 use Rattle.alg_core.specs.Fields.{Has}
 use Rattle.lin_algebra.specs.declared.matrix.Matrix.{Matrix}
 use Rattle.matrix_group.specs.Actions.{IsSquare}
-use Rattle.invariant_space.specs.declared.fault.SpaceFault.{SpaceFault}
 use Rattle.prime_field.specs.PrimeFields.{gfp, IsPrimeField}
 use Rattle.prime_field.specs.declared.gfp.PrimeField.{PrimeField}
 use Rattle.alg_core.specs.Binomials.{monomials_of_degree}
@@ -59,11 +57,6 @@ square_matrices f p n k ms field size gens = All-weaker (IsGenerator p k) (IsSqu
       rows = g.rows ∙ sym size;
       cols = g.cols ∙ sym size;
     }
-
--- an error that is handed on
-pub error_same : {X : Type 0} (r : Result X SpaceFault) (e y : SpaceFault) → IsErrAnd r (λ x. x ≡ e) → r ≡ Err y → e ≡ y
-error_same (Ok x) e y h q = absurd h
-error_same (Err x) e y h q = sym h ∙ cc
 
 -- as many weights as variables
 pub weights_many : (weights : List ℕ) (n m : ℕ) → weights ≡ replicate n 1 → n ≡ m → length weights ≡ m

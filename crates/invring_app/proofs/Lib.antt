@@ -4,6 +4,7 @@ pub mod DigitLaws
 pub mod GivenLaws
 pub mod LineLaws
 pub mod NumeralLaws
+pub mod OrderLaws
 pub mod RefusalLaws
 pub mod RunLaws
 pub mod ScriptLaws

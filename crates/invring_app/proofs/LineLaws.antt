@@ -10,6 +10,8 @@ use Rattle.alg_core.specs.declared.input_fault.InputFault.{InputFault}
 use Rattle.alg_core.specs.declared.place.Place.{Place}
 use Rattle.alg_core.specs.declared.place.Place.TheVariants.{Byte, Line}
 use Rattle.invring_app.specs.ErrorLines.{line_of, input_pieces, error_line}
+use Rattle.invring_app.specs.declared.status.BoundFault.{BoundFault}
+use Rattle.invring_app.specs.declared.status.BoundFault.TheVariants.{GroupBound}
 use Rattle.invring_app.specs.declared.status.Status.TheVariants as ends
 
 concat-push : (ps : List (List ℕ)) (p : List ℕ) → concat (ps ++ p ∷ []) ≡ concat ps ++ p
@@ -90,6 +92,9 @@ pub terms-line : (slice shown slice' shown' : List ℕ) (n degree count : ℕ) �
     → line_of (codes "bound terms " ∷ slice ∷ codes " " ∷ slice' ∷ []) ≡ line_of (codes "bound terms " ∷ decimal degree ∷ codes " " ∷ decimal count ∷ [])
 terms-line slice shown slice' shown' n degree count a b c d e =
     ap₂ (λ (s t : List ℕ). line_of (codes "bound terms " ∷ s ∷ codes " " ∷ t ∷ [])) (a ∙ b ∙ ap decimal c) (d ∙ e)
+
+pub group-line : (fault : BoundFault) (n m : ℕ) → fault ≡ GroupBound m → n ≡ m → line_of (codes "bound group " ∷ decimal n ∷ []) ≡ error_line (ends.Bound fault)
+group-line fault n m same number = ap (λ (k : ℕ). line_of (codes "bound group " ∷ decimal k ∷ [])) number ∙ ap (λ (f : BoundFault). error_line (ends.Bound f)) (sym same)
 
 -- what was taken, whatever came of it
 

@@ -1,17 +1,12 @@
 -- What was read is what the source had left, where it tells, and what the words and the bytes ask is one thing.
 use Rattle.std.proofs.Common.{◌≡◌, ℕ, ◌+◌, ◌<◌, ◌≤◌, List, [], ◌++◌, length, take, Some, None, inl, inr, sym, ap, subst, ◌∙◌, append-nil, length-append, arith}
-use Rattle.std.specs.Prelude.{All, Option, IfSome, IsSomeAnd}
-use Rattle.std.proofs.lemmas.List.Elements.{All-head}
+use Rattle.std.specs.Prelude.{Option, IfSome, IsSomeAnd}
 use Rattle.inv_outside.specs.Outside.{Gave, Took}
 use Rattle.alg_core.specs.declared.input_fault.InputFault.{InputFault}
-use Rattle.alg_core.specs.declared.limits.Limits.{Limits}
 use Rattle.alg_core.specs.declared.place.Place.{Place}
 use Rattle.alg_core.specs.declared.place.Place.TheVariants.{Byte}
-use Rattle.invring_app.specs.declared.arguments.Argument.TheVariants.{Number}
-use Rattle.invring_app.specs.declared.words.Command.{Command}
-use Rattle.invring_app.specs.declared.words.Command.TheVariants.{Basis}
 use Rattle.invring_app.specs.declared.words.Request.{Request}
-use Rattle.invring_app.specs.Commands.{IsInRange, numbers_of, IsRequest, AreInRange}
+use Rattle.invring_app.specs.Commands.{IsRequest}
 use Rattle.invring_app.specs.Outcomes.{Asks}
 use Rattle.invring_app.specs.Outputs.{IsLines}
 use Rattle.finvar_text.specs.Syntax.{Script, IsFirstFault}
@@ -56,22 +51,13 @@ read-input (Some whole) (Some rest) bytes f read (inl long) =
     inl (omega (arith, long.0), long.1)
 read-input (Some whole) (Some rest) bytes f read (inr fault) = subst (λ (t : List ℕ). IsInputFault t f) (sym (read-whole whole bytes (Some rest) read fault.0)) (inr fault)
 
--- what holds of the degree, the limits and the script that were read holds of those that are asked
-pub asked-at : (P : ℕ → Limits → Script → Type 0) (words : List (List ℕ)) (left left' : Option (List ℕ)) (bytes : List ℕ) (r : Request) (d d' : ℕ) (limits : Limits) (s s' : Script)
-    → Read left bytes left' → IsRequest words r → r.command ≡ Basis d' → IsScriptText bytes s' → P d' r.limits s' → Asks words left d limits s → P d limits s
-asked-at P words left left' bytes r d d' limits s s' read request command text holds asks =
-    let same : r ≡ record { command = Basis d; limits = limits } = IsRequest-unique words r _ request asks.basis in
-    let same_command : Basis d' ≡ Basis d = sym command ∙ ap (λ (x : Request). x.command) same in
-    let same_degree : d' ≡ d = cc in
-    let same_limits : r.limits ≡ limits = ap (λ (x : Request). x.limits) same in
+-- what holds of the request and the script that were read holds of those that are asked
+pub asked-at : (P : Request → Script → Type 0) (words : List (List ℕ)) (left left' : Option (List ℕ)) (bytes : List ℕ) (r r' : Request) (s s' : Script)
+    → Read left bytes left' → IsRequest words r' → IsScriptText bytes s' → P r' s' → Asks words left r s → P r s
+asked-at P words left left' bytes r r' s s' read request text holds asks =
+    let same_request : r' ≡ r = IsRequest-unique words r' r request asks.request in
     let same_script : s' ≡ s = text_unique bytes s' s text.1 (read-text left left' bytes s read asks.script).1 in
-    subst (λ (t : Script). P d limits t) same_script (subst (λ (l : Limits). P d l s') same_limits (subst (λ (m : ℕ). P m r.limits s') same_degree holds))
-
--- a command that was read asks for a degree of at most 1000
-pub degree-range : (r : Request) (d : ℕ) → AreInRange r → r.command ≡ Basis d → d ≤ 1000
-degree-range r d range command =
-    let numbers = subst (λ (c : Command). All (IsInRange Number) (numbers_of c)) command range.numbers in
-    (All-head (IsInRange Number) d [] numbers).1
+    subst (λ (t : Script). P r t) same_script (subst (λ (x : Request). P x s') same_request holds)
 
 -- the slice of the bytes that were read
 pub read-is : (left left' : Option (List ℕ)) (bytes slice : List ℕ) → slice ≡ bytes → Gave left bytes left' → (length bytes ≤ 16777216 → IfSome left' (λ rest. rest ≡ [])) → Read left slice left'

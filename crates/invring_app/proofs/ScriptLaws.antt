@@ -13,11 +13,12 @@ use Rattle.lin_algebra.specs.declared.matrix.Matrix.{Matrix as Cells}
 use Rattle.prime_field.specs.ListedPrimes.{is_listed}
 use Rattle.prime_field.specs.PrimeFields.{listed_positive}
 use Rattle.prime_field.specs.Residues.{neg_mod}
-use Rattle.finvar_text.specs.Conditions.{value, residue, cells, has_size, first_misfit, named, put_first, select, the_call, generators_by, generators, matrices, value_conditions, number_fault, field_fault, variables_fault, twice_fault, unknown_fault, size_fault, some_matrix, first_of, FaultFrom, HasFault}
-use Rattle.finvar_text.specs.Scripts.{IsScriptOf, IsReadScript}
-use Rattle.finvar_text.specs.Syntax.{Call, Entry, Matrix, Script as Tree, IsSome, IsScript, IsText}
+use Rattle.finvar_text.specs.Conditions.{value, residue, cells, has_size, first_misfit, named, put_first, select, the_call, generators_by, generators, matrices, value_conditions, some_matrix, first_of, FaultFrom, HasFault}
+use Rattle.finvar_text.specs.Scripts.{IsInvertible, IsScriptOf, IsReadScript}
+use Rattle.finvar_text.specs.Syntax.{Call, Entry, Matrix, Script as Tree, IsSome, IsScript}
 use Rattle.finvar_text.specs.declared.script.Script.{Script}
 use Rattle.invring_app.specs.Bases.{IsGenerator, IsSound}
+use Rattle.invring_app.specs.Orders.{HasGroup}
 
 -- where no fault is told, no condition on the values fails
 no_first : (o : Option InputFault) (t : Tree) → FaultFrom o t None → o ≡ None
@@ -114,25 +115,22 @@ some_length : {A : Type 0} (xs : List A) → IsSome xs → 1 ≤ length xs
 some_length [] h = absurd h
 some_length (x ∷ xs) h = omega arith
 
+-- where the first of some faults is none, there is none
+nones : (fs : List (Option InputFault)) → first_of fs ≡ None → All (λ f. f ≡ None) fs
+nones [] e = All-nil (λ f. f ≡ None)
+nones (f ∷ fs) e = let parts = or_none f (first_of fs) e in All-cons (λ f. f ≡ None) f fs parts.0 (nones fs parts.1)
+
+no_fault : (t : Tree) → HasFault t None → All (λ f. f ≡ None) (value_conditions t)
+no_fault t fault = nones (value_conditions t) (no_first (first_of (value_conditions t)) t fault)
+
 pub sound_script : (t : Tree) (s : Script) → IsScript t → HasFault t None → IsScriptOf t s → IsSound s
 sound_script t s tree fault is =
-    let none = no_first (first_of (value_conditions t)) t fault in
-    let after_size : Option InputFault = option_or (some_matrix (generators t)) None in
-    let after_unknown : Option InputFault = option_or (size_fault t) after_size in
-    let after_twice : Option InputFault = option_or (unknown_fault t) after_unknown in
-    let after_variables : Option InputFault = option_or (twice_fault t) after_twice in
-    let after_field : Option InputFault = option_or (variables_fault t) after_variables in
-    let numbers = or_none (number_fault t) (option_or (field_fault t) after_field) none in
-    let field = or_none (field_fault t) after_field numbers.1 in
-    let variables = or_none (variables_fault t) after_variables field.1 in
-    let twice = or_none (twice_fault t) after_twice variables.1 in
-    let unknown = or_none (unknown_fault t) after_unknown twice.1 in
-    let size = or_none (size_fault t) after_size unknown.1 in
+    let none = no_fault t fault in
     let p = value t.characteristic in
     let n = length t.variables in
-    let listed : is_listed p ≡ true = if_none (is_listed p) _ field.0 in
-    let few : n ≤ 8 = leb-true _ _ (if_none (nat_le n 8) _ variables.0) in
-    let fit : All (Fit n) (generators t) = generators_all (Fit n) t (no_misfit n (matrices t) (map_none (λ w. faults.Size w) (first_misfit n (matrices t)) size.0)) in
+    let listed : is_listed p ≡ true = if_none (is_listed p) _ (none 1 None (omega arith)) in
+    let few : n ≤ 8 = leb-true _ _ (if_none (nat_le n 8) _ (none 2 None (omega arith))) in
+    let fit : All (Fit n) (generators t) = generators_all (Fit n) t (no_misfit n (matrices t) (map_none (λ w. faults.Size w) (first_misfit n (matrices t)) (none 5 None (omega arith)))) in
     let gens : All (IsGenerator p n) s.gens.items = gens_are p n s.gens.items (generators t) (listed_positive p listed) is.gens fit in
     let many : length s.names.items ≡ n = ap length is.names in
     record {
@@ -145,3 +143,15 @@ sound_script t s tree fault is =
 -- so is a script that was read
 pub sound_read : (bytes : List ℕ) (s : Script) → IsReadScript bytes s → IsSound s
 sound_read bytes s read = sound_script read.1 s read.2.script read.3 read.4
+
+some_matrix-some : (ms : List Matrix) → some_matrix ms ≡ None → 0 < length ms
+some_matrix-some [] e = absurd cc
+some_matrix-some (m ∷ ms) e = omega arith
+
+-- its generators generate a group
+pub group_read : (bytes : List ℕ) (s : Script) → IsReadScript bytes s → All (IsInvertible s.characteristic) s.gens.items → HasGroup s
+group_read bytes s read invertible =
+    let t = read.1 in
+    let some : 0 < length (generators t) = some_matrix-some (generators t) (no_fault t read.3 6 None (omega arith)) in
+    let many = ap length read.4.gens in
+    record { some = omega (arith, some, many, length-map s.gens.items shape, length-map (generators t) (shape_of (value t.characteristic) (length t.variables))); invertible = invertible }

@@ -12,17 +12,15 @@
 --   values a parts       the values that the parts have for the argument, in their order
 --   IsChosen vs d v      v is the only one of the values vs, or the default d where there is none
 --   command_name c       the word for a command
---   numbers_of c         the number that it needs, as a list
+--   numbers_of c         the number that it needs, as a list: none where it needs none
 --   IsRequest ws r       the words are the name of the command and parts, in any order: each option at most once, and
 --                        exactly the number that the command needs; a limit is what its option says, else its default
---   AsksBasis ws d l     the words ask for the basis of degree d under the limits l
 --   AreInRange r         the number of the command and the seven limits are in their ranges
 use Rattle.std.specs.Prelude.{◌≡◌, ◌⊎◌, ℕ, ◌≤◌, All, List, [], ◌∷◌, ◌++◌, Option, Some, None, if◌then◌else◌, ◌==◌, codes, decimal}
-use Rattle.alg_core.specs.declared.limits.Limits.{Limits}
 use Rattle.invring_app.specs.declared.arguments.Argument.{Argument}
 use Rattle.invring_app.specs.declared.arguments.Argument.TheVariants.{Number, MaxOrder, MaxDegree, MaxBasis, MaxTerms, MaxRank, Tries, MaxText}
 use Rattle.invring_app.specs.declared.words.Command.{Command}
-use Rattle.invring_app.specs.declared.words.Command.TheVariants.{Basis}
+use Rattle.invring_app.specs.declared.words.Command.TheVariants.{Basis, Order}
 use Rattle.invring_app.specs.declared.words.Request.{Request}
 
 abbrev pub option_name : Argument → Option (List ℕ)
@@ -95,9 +93,11 @@ IsChosen (x ∷ y ∷ xs) default v = ⊥
 
 abbrev pub command_name : Command → List ℕ
 command_name (Basis d) = codes "basis"
+command_name Order = codes "order"
 
 abbrev pub numbers_of : Command → List ℕ
 numbers_of (Basis d) = d ∷ []
+numbers_of Order = []
 
 pub record IsRequest (words : List (List ℕ)) (r : Request) : Type 0 where
   pub rest : List (List ℕ)
@@ -112,9 +112,6 @@ pub record IsRequest (words : List (List ℕ)) (r : Request) : Type 0 where
   pub max_rank : IsChosen (values MaxRank parts) 512 r.limits.max_rank
   pub tries : IsChosen (values Tries parts) 256 r.limits.tries
   pub max_text : IsChosen (values MaxText parts) 268435456 r.limits.max_text
-
-abbrev pub AsksBasis : List (List ℕ) → ℕ → Limits → Type 0
-AsksBasis words d limits = IsRequest words (record { command = Basis d; limits = limits })
 
 pub record AreInRange (r : Request) : Type 0 where
   pub numbers : All (IsInRange Number) (numbers_of r.command)

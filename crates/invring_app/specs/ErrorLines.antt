@@ -7,7 +7,7 @@ use Rattle.std.specs.Prelude.{ℕ, List, [], ◌∷◌, ◌++◌, codes, decimal
 use Rattle.alg_core.specs.declared.input_fault.InputFault.{InputFault}
 use Rattle.alg_core.specs.declared.input_fault.InputFault.TheVariants as faults
 use Rattle.alg_core.specs.declared.place.Place.TheVariants.{Byte, Line}
-use Rattle.invring_app.specs.declared.status.BoundFault.TheVariants.{TermBound}
+use Rattle.invring_app.specs.declared.status.BoundFault.TheVariants.{TermBound, GroupBound}
 use Rattle.invring_app.specs.declared.status.Status.{Status}
 use Rattle.invring_app.specs.declared.status.Status.TheVariants.{Done, Usage, Syntax, Input, Bound, ReadFault, WriteFault, Memory}
 
@@ -33,6 +33,7 @@ error_line (Syntax (Byte n)) = line_of (codes "syntax place " ∷ decimal n ∷ 
 error_line (Syntax (Line n)) = line_of (codes "syntax line " ∷ decimal n ∷ [])
 error_line (Input fault) = line_of (input_pieces fault)
 error_line (Bound (TermBound degree count)) = line_of (codes "bound terms " ∷ decimal degree ∷ codes " " ∷ decimal count ∷ [])
+error_line (Bound (GroupBound counted)) = line_of (codes "bound group " ∷ decimal counted ∷ [])
 error_line ReadFault = line_of (codes "read" ∷ [])
 error_line WriteFault = line_of (codes "write" ∷ [])
 error_line Memory = line_of (codes "memory" ∷ [])

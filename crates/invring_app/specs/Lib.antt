@@ -5,5 +5,6 @@ pub mod Scripts
 pub mod Refusals
 pub mod Outputs
 pub mod Bases
+pub mod Orders
 pub mod Outcomes
 pub mod ErrorLines

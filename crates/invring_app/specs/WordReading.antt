@@ -13,6 +13,7 @@
 --   steps s ws            what is read with the words ws more
 --   finish s              what was given, where no option awaits its value
 --   arguments_of ws       what the words after the command give
+--   command_of w o        the command with the name w and the number o, where there is one exactly if it needs one
 --   request_of ws         what the words ask for
 use Rattle.std.specs.Prelude.{ℕ, ◌==◌, nat_lt, List, [], ◌∷◌, length, Option, Some, None, is_some, unwrap_or, if◌then◌else◌, codes}
 use Rattle.std.specs.List.{position_or_len, before_first, after_first}
@@ -21,7 +22,8 @@ use Rattle.alg_core.specs.declared.limits.Limits.{Limits}
 use Rattle.invring_app.specs.declared.arguments.Argument.{Argument}
 use Rattle.invring_app.specs.declared.arguments.Argument.TheVariants.{Number, MaxOrder, MaxDegree, MaxBasis, MaxTerms, MaxRank, Tries, MaxText}
 use Rattle.invring_app.specs.declared.given.Given.{Given}
-use Rattle.invring_app.specs.declared.words.Command.TheVariants.{Basis}
+use Rattle.invring_app.specs.declared.words.Command.{Command}
+use Rattle.invring_app.specs.declared.words.Command.TheVariants.{Basis, Order}
 use Rattle.invring_app.specs.declared.words.Reading.{Reading}
 use Rattle.invring_app.specs.declared.words.Request.{Request}
 use Rattle.invring_app.specs.Commands.{least, most}
@@ -106,8 +108,12 @@ finish g None = Some g
 unfoldable pub arguments_of : List (List ℕ) → Option Given
 arguments_of ws = steps (record { given = nothing_given; awaited = None }) ws >>= λ s. finish s.given s.awaited
 
+unfoldable pub command_of : List ℕ → Option ℕ → Option Command
+command_of w number =
+    if bytes_eq w (codes "basis") then (number >>= λ d. Some (Basis d))
+    else (if bytes_eq w (codes "order") then (if is_some number then None else Some Order)
+    else None)
+
 abbrev pub request_of : List (List ℕ) → Option Request
 request_of [] = None
-request_of (w ∷ ws) =
-    if bytes_eq w (codes "basis") then (arguments_of ws >>= λ g. g.number >>= λ d. Some (record { command = Basis d; limits = limits_of g }))
-    else None
+request_of (w ∷ ws) = arguments_of ws >>= λ g. command_of w g.number >>= λ c. Some (record { command = c; limits = limits_of g })

@@ -1,16 +1,22 @@
-ghost use Rattle.std.specs.Prelude.{◌≡◌, ◌≤◌, Err, IfOk, OnOk};
-ghost use Rattle.finvar_text.specs.Scripts.{IsInputFault};
+ghost use Rattle.std.specs.Prelude.{◌≡◌, Err, IfErr, IfOk, OnOk};
+ghost use Rattle.finvar_text.specs.Scripts.{IsInputFault, IsScriptOf};
 ghost use Rattle.finvar_text.specs.Syntax.{Script as Tree};
-ghost use Rattle.invring_app.specs.Outcomes.{count_of, IsTermBound};
-ghost use Rattle.invring_app.specs.Bases.{IsBasisText};
+ghost use Rattle.invring_app.specs.Outcomes.{IsBoundOf, IsWithin, IsTextOf};
+ghost use Rattle.invring_app.specs.Bases.{IsSound};
+ghost use Rattle.invring_app.specs.Commands.{AreInRange};
+ghost use Rattle.invring_app.specs.Orders.{HasGroup};
 ghost use Rattle.invring_app.specs.Outputs.{IsLines};
+ghost use Rattle.invring_app.specs.Refusals.{IsPastScript};
 ghost use Rattle.invring_app.specs.Scripts.{IsScriptText, IsSyntaxFault};
 
 use crate::basis::basis_text;
+use crate::order::order_text;
 use crate::status::BoundFault;
+use crate::words::{Command, Request};
 use alg_core::{InputFault, Memory, Place};
-use finvar_text::{ScriptFault, read_script};
+use finvar_text::{Script, ScriptFault, read_script};
 use invariant_space::SpaceFault;
+use matrix_group::GroupFault;
 use std::alloc::Global;
 
 /// Why there is no answer to a script.
@@ -64,22 +70,57 @@ impl From<SpaceFault> for Refusal {
     }
 }
 
-/// The lines of the basis of this degree for the script that the bytes are a text of.
-pub(crate) fn answer(
-    alloc: Global,
-    degree: u32,
-    max_terms: u32,
-    bytes: &[u8],
-) -> Result<Vec<u8>, Refusal>
-    requires degree { degree ≤ 1000 }
+impl From<GroupFault> for Refusal {
+    ghost use Rattle.invring_app.specs.Refusals.{refusal_of_group};
+    ghost use Rattle.std.specs.Prelude.{◌≡◌};
+
+    ghost from_gives = { λ e r. r ≡ refusal_of_group e };
+
+    fn from(fault: GroupFault) -> Refusal {
+        match fault {
+            GroupFault::GroupBound { counted } => {
+                Refusal::Bound(BoundFault::GroupBound { counted })
+            }
+            GroupFault::Memory => Refusal::Memory,
+        }
+    }
+}
+
+/// What the request asks of this script, as text.
+fn text_of(alloc: Global, script: Script, request: Request) -> Result<Vec<u8>, Refusal>
+    requires sound { IsSound script }
+    requires group { HasGroup script }
+    requires range { AreInRange request }
     ensures lines { IfOk result (λ text. IsLines text.items) }
-    ensures script { OnOk result ((t : Tree) × IsScriptText bytes.now t × (count_of degree t ≤ max_terms)) }
-    ensures basis { IfOk result (λ text. (t : Tree) × IsScriptText bytes.now t × (count_of degree t ≤ max_terms) × IsBasisText t degree text.items) }
+    ensures within { (t : Tree) → IsScriptOf t script → IfOk result (λ _. IsWithin request.command request.limits t) }
+    ensures text { (t : Tree) → IsScriptOf t script → IfOk result (λ text. IsTextOf request.command t text.items) }
+    ensures bound { (t : Tree) (fault : BoundFault) → IsScriptOf t script → result ≡ Err (Refusal.Bound fault) → IsBoundOf request.command request.limits t fault }
+    ensures past { IfErr result IsPastScript }
+{
+    let limits = request.limits;
+    match request.command {
+        Command::Basis { degree } => {
+            let text = basis_text(alloc, script, degree, limits.max_terms)?;
+            Ok(text)
+        }
+        Command::Order => {
+            let text = order_text(alloc, &script, limits.max_order)?;
+            Ok(text)
+        }
+    }
+}
+
+/// What the request asks of the script that the bytes are a text of, as text.
+pub(crate) fn answer(alloc: Global, request: Request, bytes: &[u8]) -> Result<Vec<u8>, Refusal>
+    requires range { AreInRange request }
+    ensures lines { IfOk result (λ text. IsLines text.items) }
+    ensures script { OnOk result ((t : Tree) × IsScriptText bytes.now t × IsWithin request.command request.limits t) }
+    ensures text { IfOk result (λ text. (t : Tree) × IsScriptText bytes.now t × IsWithin request.command request.limits t × IsTextOf request.command t text.items) }
     ensures syntax { (place : Place) → result ≡ Err (Refusal.Syntax place) → IsSyntaxFault bytes.now place }
     ensures input { (fault : InputFault) → result ≡ Err (Refusal.Input fault) → IsInputFault bytes.now fault }
-    ensures bound { (fault : BoundFault) → result ≡ Err (Refusal.Bound fault) → (t : Tree) × IsScriptText bytes.now t × IsTermBound fault degree max_terms t }
+    ensures bound { (fault : BoundFault) → result ≡ Err (Refusal.Bound fault) → (t : Tree) × IsScriptText bytes.now t × IsBoundOf request.command request.limits t fault }
 {
     let script = read_script(alloc, bytes)?;
-    let text = basis_text(alloc, script, degree, max_terms)?;
+    let text = text_of(alloc, script, request)?;
     Ok(text)
 }

@@ -1,16 +1,15 @@
 //! The echelon basis of the invariants of one degree, as lines of text.
 
-ghost use Rattle.std.specs.Prelude.{◌≡◌, ◌<◌, ◌≤◌, ◌∷◌, ℕ, [], true, Err, IfOk, length, map, replicate, All};
+ghost use Rattle.std.specs.Prelude.{◌≡◌, ◌<◌, ◌≤◌, ◌∷◌, ℕ, [], Err, IfOk, length, map, replicate, All};
 ghost use Rattle.alg_core.specs.Spaces.{over, entries, Fits};
 ghost use Rattle.finvar_text.specs.Scripts.{IsScriptOf};
 ghost use Rattle.finvar_text.specs.Syntax.{Script as Tree};
 ghost use Rattle.poly_text.specs.Texts.{place_count};
-ghost use Rattle.prime_field.specs.ListedPrimes.{is_listed};
-ghost use Rattle.prime_field.specs.PrimeFields.{IsPrimeField};
 ghost use Rattle.invring_app.specs.Bases.{lines, IsBasisText, IsSound};
 ghost use Rattle.invring_app.specs.Outcomes.{count_of};
 ghost use Rattle.invring_app.specs.Outputs.{IsLines};
 
+use crate::field::field_of;
 use alg_core::{Dp, Field, Grading, Memory, Name, Space, TermOrder};
 use finvar_text::Script;
 use invariant_space::{SpaceFault, basis};
@@ -18,14 +17,6 @@ use poly_module::Poly;
 use poly_text::{Names, print_poly};
 use prime_field::PrimeField;
 use std::alloc::Global;
-
-/// The prime field of a characteristic.
-fn field_of(characteristic: u32) -> PrimeField
-    requires listed { is_listed characteristic ≡ true }
-    ensures is { IsPrimeField characteristic (⟦<PrimeField as Field>⟧.field result) }
-{
-    PrimeField::new(characteristic).unwrap()
-}
 
 /// The polynomials in these variables, each of degree 1, by degree reverse lexicographic order.
 fn polynomials(

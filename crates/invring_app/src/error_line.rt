@@ -89,6 +89,21 @@ fn write_terms<E: Sink>(err: &mut E, degree: u32, count: u128) -> Result<(), Fai
     write_line(err, &pieces)
 }
 
+/// Writes the line of a bound.
+fn write_bound<E: Sink>(err: &mut E, fault: &BoundFault) -> Result<(), Failed>
+    ensures ok { let line = error_line (ends.Bound fault.now) in OnOk result (Took (E.taken err.old) line (E.taken err.new)) }
+    ensures err { let line = error_line (ends.Bound fault.now) in OnErr result ((k : ℕ) × (k ≤ length line) × Took (E.taken err.old) (take k line) (E.taken err.new)) }
+    ensures cause { IsErr result → Rose (E.faults err.old) (E.faults err.new) }
+    ensures later { E.faults err.old ≤ E.faults err.new }
+{
+    match fault {
+        BoundFault::TermBound { degree, count } => write_terms(err, *degree, *count),
+        BoundFault::GroupBound { counted } => {
+            write_number(err, b"bound group ", u128::from(*counted))
+        }
+    }
+}
+
 /// Writes the line of a status. It takes no memory.
 pub fn write_error<E: Sink>(err: &mut E, status: &Status) -> Result<(), Failed>
     ensures ok { OnOk result (Took (E.taken err.old) (error_line status.now) (E.taken err.new)) }
@@ -102,7 +117,7 @@ pub fn write_error<E: Sink>(err: &mut E, status: &Status) -> Result<(), Failed>
         Status::Usage => write_line(err, &[b"usage"]),
         Status::Syntax(place) => write_place(err, *place),
         Status::Input(fault) => write_input(err, fault),
-        Status::Bound(BoundFault::TermBound { degree, count }) => write_terms(err, *degree, *count),
+        Status::Bound(fault) => write_bound(err, fault),
         Status::ReadFault => write_line(err, &[b"read"]),
         Status::WriteFault => write_line(err, &[b"write"]),
         Status::Memory => write_line(err, &[b"memory"]),

@@ -1,4 +1,4 @@
-//! The call of the program: it reads the words and a script, and writes the basis that they ask for.
+//! The call of the program: it reads the words and a script, and writes the basis or the order that they ask for.
 #![tactic(auto)]
 
 mod answer;
@@ -6,8 +6,10 @@ mod arguments;
 mod basis;
 mod digits;
 mod error_line;
+mod field;
 mod given;
 mod number;
+mod order;
 mod status;
 mod top_call;
 mod words;

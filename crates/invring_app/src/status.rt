@@ -7,6 +7,8 @@ use alg_core::{InputFault, Place};
 pub enum BoundFault {
     /// A degree was needed that has more monomials than the limit.
     TermBound { degree: u32, count: u128 },
+    /// The group has more elements than the limit, at least `counted`.
+    GroupBound { counted: u64 },
 }
 
 /// How a run ended.

@@ -81,11 +81,69 @@ fn answers_scripts(rt: HostRuntime) -> Result<(), Fail> {
 }
 
 #[test]
+fn counts_groups(rt: HostRuntime) -> Result<(), Fail> {
+    let over = BoundFault::GroupBound { counted: 10 };
+    let whole = b"ring R=2,(x,y),dp; matrix A[2][2]=0,1,1,0; matrix B[2][2]=1,1,0,1;";
+    let twice =
+        b"ring R=2,(x,y),dp; matrix A[2][2]=0,1,1,0; matrix B[2][2]=1,1,0,1; matrix P,S,IS=invariant_ring(A,B,A);";
+    let one =
+        b"ring R=2,(x,y),dp; matrix A[2][2]=0,1,1,0; matrix B[2][2]=1,1,0,1; matrix P,S,IS=invariant_ring(A);";
+    let identity = b"ring R=3,(x,y),dp; matrix A[2][2]=1,0,0,1;";
+    let quaternions = b"ring R=3,(x,y),dp; matrix A[2][2]=0,1,-1,0; matrix B[2][2]=1,1,1,-1;";
+    let units = b"ring R=11,(x),dp; matrix A[1][1]=2;";
+    let table: [(&[&str], &[u8], Status, &[u8], &[u8]); 8] = [
+        (&["order"], whole, Status::Done, b"6\n", b""),
+        (&["order"], twice, Status::Done, b"6\n", b""),
+        (&["order"], one, Status::Done, b"2\n", b""),
+        (&["order"], identity, Status::Done, b"1\n", b""),
+        (&["order"], quaternions, Status::Done, b"8\n", b""),
+        (
+            &["order", "--max-order", "9"],
+            units,
+            Status::Bound(over),
+            b"",
+            b"bound group 10\n",
+        ),
+        (
+            &["order", "--max-order=10"],
+            units,
+            Status::Done,
+            b"10\n",
+            b"",
+        ),
+        (
+            &["order", "--max-terms=1", "--max-order", "1"],
+            identity,
+            Status::Done,
+            b"1\n",
+            b"",
+        ),
+    ];
+    for (words, script, status, text, line) in table {
+        let (ended, taken, told) = clean_run(rt.alloc(), words, script)?;
+        assert_eq!(rt; ended, status, "{words:?}");
+        assert_eq!(rt; taken.as_slice(), text, "{words:?}");
+        assert_eq!(rt; told.as_slice(), line, "{words:?}");
+    }
+    Ok(())
+}
+
+#[test]
 fn takes_options_in_any_order(rt: HostRuntime) -> Result<(), Fail> {
     let over = BoundFault::TermBound {
         degree: 9,
         count: 10,
     };
+    let order: &[&str] = &[
+        "order",
+        "--max-text=1",
+        "--tries=1",
+        "--max-rank=1",
+        "--max-terms=1",
+        "--max-basis=1",
+        "--max-degree=1",
+        "--max-order=2",
+    ];
     let all: &[&str] = &[
         "basis",
         "--max-order=1000000",
@@ -100,7 +158,7 @@ fn takes_options_in_any_order(rt: HostRuntime) -> Result<(), Fail> {
         "65536",
         "--max-rank=4096",
     ];
-    let table: [(&[&str], Status, &[u8], &[u8]); 4] = [
+    let table: [(&[&str], Status, &[u8], &[u8]); 5] = [
         (
             &["basis", "--max-terms=9", "2"],
             Status::Done,
@@ -120,6 +178,7 @@ fn takes_options_in_any_order(rt: HostRuntime) -> Result<(), Fail> {
             b"bound terms 9 10\n",
         ),
         (all, Status::Done, b"x^2+y^2\nx*y\n", b""),
+        (order, Status::Done, b"2\n", b""),
     ];
     for (words, status, text, line) in table {
         let (ended, taken, told) = clean_run(rt.alloc(), words, SWAP)?;
@@ -132,7 +191,7 @@ fn takes_options_in_any_order(rt: HostRuntime) -> Result<(), Fail> {
 
 #[test]
 fn refuses_other_words(rt: HostRuntime) -> Result<(), Fail> {
-    let table: [&[&str]; 38] = [
+    let table: [&[&str]; 43] = [
         &[],
         &[""],
         &["basis"],
@@ -171,6 +230,11 @@ fn refuses_other_words(rt: HostRuntime) -> Result<(), Fail> {
         &["basis", "2", "max-terms=9"],
         &["basis", "2", "=9"],
         &["basis", "2="],
+        &["order", "3"],
+        &["order", "--max-order", "0"],
+        &["order", "--max-order"],
+        &["order", "--max-order=2", "--max-order=2"],
+        &["order", "basis"],
     ];
     for words in table {
         let (status, taken, line) = clean_run(rt.alloc(), words, SWAP)?;

@@ -1,11 +1,9 @@
 ghost use Rattle.std.specs.Prelude.{◌≡◌, ◌≢◌, ◌↔◌, ◌<◌, ◌≤◌, ℕ, List, [], length, take, map, string_bytes, IfSome};
 ghost use Rattle.inv_outside.specs.Outside.{Rose, Gave, Took};
-ghost use Rattle.alg_core.specs.declared.limits.Limits.{Limits};
 ghost use Rattle.invring_app.specs.Commands.{IsRequest};
 ghost use Rattle.invring_app.specs.declared.words.Request.{Request};
 ghost use Rattle.invring_app.specs.ErrorLines.{error_line};
-ghost use Rattle.invring_app.specs.Outcomes.{Asks, IsPastReading, Writes, IsTermBound, count_of};
-ghost use Rattle.invring_app.specs.Bases.{IsBasisText};
+ghost use Rattle.invring_app.specs.Outcomes.{Asks, IsPastReading, Writes, IsBoundOf, IsWithin, IsTextOf};
 ghost use Rattle.invring_app.specs.Outputs.{IsLines};
 ghost use Rattle.invring_app.specs.Scripts.{IsScriptText};
 ghost use Rattle.finvar_text.specs.Scripts.{IsInputFault};
@@ -22,7 +20,7 @@ use std::alloc::Global;
 /// The greatest length of a script, in bytes.
 const LIMIT: usize = 16777216;
 
-/// Does what the words ask for: reads the script to its end, and writes the basis.
+/// Does what the words ask for: reads the script to its end, and writes the basis or the order.
 ///
 /// Of several faults the first one is answered, in the order words, reading, length, syntax,
 /// values, bound, writing; `Memory` may come wherever the words are a command. All of the output is
@@ -49,17 +47,17 @@ pub fn run<S: Source, O: Sink, E: Sink>(
     ensures end { IsPastReading result → IfSome (S.left src.new) (λ rest. rest ≡ []) }
 
     // The bound.
-    ensures bound { (f : BoundFault) (d : ℕ) (limits : Limits) (t : Tree) → result ≡ Status.Bound f → Asks (map string_bytes words.now) (S.left src.old) d limits t → IsTermBound f d limits.max_terms t }
-    ensures within { (d : ℕ) (limits : Limits) (t : Tree) → Writes result → Asks (map string_bytes words.now) (S.left src.old) d limits t → count_of d t ≤ limits.max_terms }
+    ensures bound { (f : BoundFault) (r : Request) (t : Tree) → result ≡ Status.Bound f → Asks (map string_bytes words.now) (S.left src.old) r t → IsBoundOf r.command r.limits t f }
+    ensures within { (r : Request) (t : Tree) → Writes result → Asks (map string_bytes words.now) (S.left src.old) r t → IsWithin r.command r.limits t }
 
     // What is written.
     ensures done { result ≡ Status.Done → (text : List ℕ) × IsLines text × Took (O.taken out.old) text (O.taken out.new) }
-    ensures basis { (d : ℕ) (limits : Limits) (t : Tree) → result ≡ Status.Done → Asks (map string_bytes words.now) (S.left src.old) d limits t
-        → (text : List ℕ) × IsBasisText t d text × Took (O.taken out.old) text (O.taken out.new) }
+    ensures text { (r : Request) (t : Tree) → result ≡ Status.Done → Asks (map string_bytes words.now) (S.left src.old) r t
+        → (text : List ℕ) × IsTextOf r.command t text × Took (O.taken out.old) text (O.taken out.new) }
     ensures write { result ≡ Status.WriteFault → Rose (O.faults out.old) (O.faults out.new) }
     ensures front { result ≡ Status.WriteFault → (text : List ℕ) × (k : ℕ) × IsLines text × (k < length text) × Took (O.taken out.old) (take k text) (O.taken out.new) }
-    ensures basis_front { (d : ℕ) (limits : Limits) (t : Tree) → result ≡ Status.WriteFault → Asks (map string_bytes words.now) (S.left src.old) d limits t
-        → (text : List ℕ) × (k : ℕ) × IsBasisText t d text × (k < length text) × Took (O.taken out.old) (take k text) (O.taken out.new) }
+    ensures text_front { (r : Request) (t : Tree) → result ≡ Status.WriteFault → Asks (map string_bytes words.now) (S.left src.old) r t
+        → (text : List ℕ) × (k : ℕ) × IsTextOf r.command t text × (k < length text) × Took (O.taken out.old) (take k text) (O.taken out.new) }
     ensures silent { ¬ Writes result → out.new ≡ out.old }
 
     // The error line: its front, all of it where `err` had no fault, and nothing where the run is done.
@@ -88,30 +86,29 @@ fn work<S: Source, O: Sink>(alloc: Global, words: &[String], src: &mut S, out: &
     ensures end { IsPastReading result → IfSome (S.left src.new) (λ rest. rest ≡ []) }
 
     // The bound.
-    ensures bound { (f : BoundFault) (d : ℕ) (limits : Limits) (t : Tree) → result ≡ Status.Bound f → Asks (map string_bytes words.now) (S.left src.old) d limits t → IsTermBound f d limits.max_terms t }
-    ensures within { (d : ℕ) (limits : Limits) (t : Tree) → Writes result → Asks (map string_bytes words.now) (S.left src.old) d limits t → count_of d t ≤ limits.max_terms }
+    ensures bound { (f : BoundFault) (r : Request) (t : Tree) → result ≡ Status.Bound f → Asks (map string_bytes words.now) (S.left src.old) r t → IsBoundOf r.command r.limits t f }
+    ensures within { (r : Request) (t : Tree) → Writes result → Asks (map string_bytes words.now) (S.left src.old) r t → IsWithin r.command r.limits t }
 
     // What is written.
     ensures done { result ≡ Status.Done → (text : List ℕ) × IsLines text × Took (O.taken out.old) text (O.taken out.new) }
-    ensures basis { (d : ℕ) (limits : Limits) (t : Tree) → result ≡ Status.Done → Asks (map string_bytes words.now) (S.left src.old) d limits t
-        → (text : List ℕ) × IsBasisText t d text × Took (O.taken out.old) text (O.taken out.new) }
+    ensures text { (r : Request) (t : Tree) → result ≡ Status.Done → Asks (map string_bytes words.now) (S.left src.old) r t
+        → (text : List ℕ) × IsTextOf r.command t text × Took (O.taken out.old) text (O.taken out.new) }
     ensures write { result ≡ Status.WriteFault → Rose (O.faults out.old) (O.faults out.new) }
     ensures front { result ≡ Status.WriteFault → (text : List ℕ) × (k : ℕ) × IsLines text × (k < length text) × Took (O.taken out.old) (take k text) (O.taken out.new) }
-    ensures basis_front { (d : ℕ) (limits : Limits) (t : Tree) → result ≡ Status.WriteFault → Asks (map string_bytes words.now) (S.left src.old) d limits t
-        → (text : List ℕ) × (k : ℕ) × IsBasisText t d text × (k < length text) × Took (O.taken out.old) (take k text) (O.taken out.new) }
+    ensures text_front { (r : Request) (t : Tree) → result ≡ Status.WriteFault → Asks (map string_bytes words.now) (S.left src.old) r t
+        → (text : List ℕ) × (k : ℕ) × IsTextOf r.command t text × (k < length text) × Took (O.taken out.old) (take k text) (O.taken out.new) }
     ensures silent { ¬ Writes result → out.new ≡ out.old }
 {
     let request = match read_words(words) {
         Some(request) => request,
         None => return Status::Usage,
     };
-    let degree = request.command.degree();
     let bytes = match read_all(alloc, src, LIMIT) {
         Ok(bytes) => bytes,
         Err(ReadFault::Failed) => return Status::ReadFault,
         Err(ReadFault::Memory) => return Status::Memory,
     };
-    let text = match answer(alloc, degree, request.limits.max_terms, &bytes) {
+    let text = match answer(alloc, request, &bytes) {
         Ok(text) => text,
         Err(Refusal::Memory) => return Status::Memory,
         Err(Refusal::Syntax(place)) => return Status::Syntax(place),

@@ -1,6 +1,6 @@
 ghost use Rattle.std.specs.Prelude.{◌≡◌, ℕ, List, IfSome, IfNone, map, string_bytes};
 ghost use Rattle.invring_app.specs.Commands.{IsRequest, AreInRange};
-ghost use Rattle.invring_app.specs.WordReading.{give, step_of, arguments_of, request_of};
+ghost use Rattle.invring_app.specs.WordReading.{give, step_of, arguments_of, command_of, request_of};
 ghost use Rattle.invring_app.specs.declared.words.Request.{Request as Asked};
 
 use crate::arguments::Argument;
@@ -13,19 +13,8 @@ use alg_core::Limits;
 pub enum Command {
     /// The echelon basis of the invariants of one degree.
     Basis { degree: u32 },
-}
-
-impl Command {
-    ghost use Rattle.std.specs.Prelude.{◌≡◌};
-
-    /// The number that the command has.
-    pub fn degree(self) -> u32
-        ensures basis { self ≡ Command.Basis result }
-    {
-        match self {
-            Command::Basis { degree } => degree,
-        }
-    }
+    /// The order of the group.
+    Order,
 }
 
 /// What the words ask for.
@@ -103,18 +92,27 @@ fn arguments_in(words: &[String]) -> Option<Given>
     }
 }
 
+/// The command of this name, with the number that was given exactly where it needs one.
+#[tactic(auto, unfolding(crate::specs::WordReading::command_of))]
+fn command_in(name: &str, number: Option<u32>) -> Option<Command>
+    ensures is { result ≡ command_of name.now number }
+{
+    match name {
+        "basis" => number.map(|degree| Command::Basis { degree }),
+        "order" => number.is_none().then_some(Command::Order),
+        _ => None,
+    }
+}
+
 /// What the words ask for, by their reading from the left.
 fn request_in(words: &[String]) -> Option<Request>
     ensures is { result ≡ request_of (map string_bytes words.now) }
 {
-    let (command, rest) = words.split_first()?;
-    if command.as_str() != "basis" {
-        return None;
-    }
+    let (name, rest) = words.split_first()?;
     let given = arguments_in(rest)?;
-    let degree = given.number?;
+    let command = command_in(name.as_str(), given.number)?;
     Some(Request {
-        command: Command::Basis { degree },
+        command,
         limits: given.limits(),
     })
 }

@@ -2,7 +2,7 @@ use Rattle.std.proofs.Common.{◌≡◌, ℕ, List, All, None, length, map, Err,
 use Rattle.alg_core.specs.DpOrder.{dp_order}
 use Rattle.alg_core.specs.Fields.{FieldOn}
 use Rattle.alg_core.specs.Spaces.{over, entries}
-use Rattle.alg_core.specs.Vectors.{vec}
+use Rattle.alg_core.specs.Vectors.{Entry, vec}
 use Rattle.alg_core.specs.declared.dp.Dp.{Dp}
 use Rattle.invariant_space.specs.InvariantSpaces.{IsEchelonBasis}
 use Rattle.lin_algebra.specs.declared.matrix.Matrix.{Matrix}
@@ -11,7 +11,8 @@ use Rattle.prime_field.specs.PrimeFields.{gfp, IsPrimeField}
 use Rattle.prime_field.specs.declared.gfp.PrimeField.{PrimeField}
 use Rattle.invariant_space.specs.declared.fault.SpaceFault.TheVariants as faults
 use Rattle.invring_app.specs.Bases.{lines}
-use Rattle.invring_app.proofs.BasisLaws.{square_matrices, error_same, weights_many, bound_is, basis_is, lines_are}
+use Rattle.invring_app.proofs.RefusalLaws.{error_same}
+use Rattle.invring_app.proofs.BasisLaws.{square_matrices, weights_many, bound_is, basis_is, lines_are}
 use Rattle.invring_app.proofs.basis.basis_text.Goals as goal
 
 pub basis-requires-clause-square : goal.basis-requires-clause-square
@@ -38,6 +39,10 @@ returns-clause-basis c = λ tree of.
     basis_is (entries (λ (m : List ℕ). m)) tree c.args.script space (record { vars = c.args.script.names; primaries = None; irreducibles = None }) c.in_ok-basis.basis.items (length c.deref.result.now) c.args.degree c.in_ok-text.text.items
     of (ap length c.deref.ensures.value) field c.in_ok-space.ensures.order c.in_ok-space.ensures.weights c.in_ok-space.ensures.shifts refl refl refl
     c.in_ok-basis.ensures.fits c.in_ok-basis.ensures.polynomials echelon (c.in_ok-text.ensures.text ∙ ap (λ ps. lines S (record { vars = c.args.script.names; primaries = None; irreducibles = None }) (map (entries (λ (m : List ℕ). m)) ps)) c.deref-3.ensures.value)
+
+pub lines-requires-clause-polynomials : goal.lines-requires-clause-polynomials
+lines-requires-clause-polynomials c =
+    subst (λ ps. All (λ p. All (λ (e : Entry ℕ). e.0.0 ≡ 0) (entries (λ (m : List ℕ). m) p)) ps) (sym c.deref-3.ensures.value) c.in_ok-basis.ensures.polynomials
 
 pub returns-clause-lines : goal.returns-clause-lines
 returns-clause-lines c =
