@@ -48,36 +48,49 @@ fn dp_falls_through_the_quadratic_monomials(rt: HostRuntime) -> Result<(), Fail>
 }
 
 #[test]
-fn orders_by_weights_blocks_and_positions(rt: HostRuntime) -> Result<(), Fail> {
+fn dp_goes_by_weights_and_positions(rt: HostRuntime) -> Result<(), Fail> {
     let alloc = rt.alloc();
-    let weighted = Dp {
+    let order = Dp {
         weights: vec![in alloc; 3, 1]?,
     };
-    let a = term(alloc, 0, &[1, 0])?;
-    let b = term(alloc, 0, &[0, 2])?;
-    let c = term(alloc, 1, &[1, 0])?;
-    assert_eq!(rt; compared(&weighted, &a, &b), Some(Ordering::Greater));
-    assert_eq!(rt; compared(&weighted, &c, &a), Some(Ordering::Less));
-    let block = BlockOrder {
+    let x = term(alloc, 0, &[1, 0])?;
+    let yy = term(alloc, 0, &[0, 2])?;
+    let later = term(alloc, 1, &[1, 0])?;
+    assert_eq!(rt; compared(&order, &x, &yy), Some(Ordering::Greater));
+    assert_eq!(rt; compared(&order, &later, &x), Some(Ordering::Less));
+    Ok(())
+}
+
+#[test]
+fn block_order_goes_by_the_first_block(rt: HostRuntime) -> Result<(), Fail> {
+    let alloc = rt.alloc();
+    let order = BlockOrder {
         vars: 1,
         weights: vec![in alloc; 5]?,
     };
-    assert_eq!(rt; compared(&block, &a, &b), Some(Ordering::Greater));
-    assert_eq!(rt;
-        compared(&block, &b, &term(alloc, 0, &[0, 1])?),
-        Some(Ordering::Greater)
-    );
-    let elimination = ElimOrder {
+    let x = term(alloc, 0, &[1, 0])?;
+    let yy = term(alloc, 0, &[0, 2])?;
+    let y = term(alloc, 0, &[0, 1])?;
+    let narrow = term(alloc, 0, &[1])?;
+    assert_eq!(rt; compared(&order, &x, &yy), Some(Ordering::Greater));
+    assert_eq!(rt; compared(&order, &yy, &y), Some(Ordering::Greater));
+    assert_eq!(rt; compared(&order, &x, &narrow), None);
+    Ok(())
+}
+
+#[test]
+fn elimination_order_goes_by_the_first_positions(rt: HostRuntime) -> Result<(), Fail> {
+    let alloc = rt.alloc();
+    let order = ElimOrder {
         first: 1,
         weights: vec![in alloc; 1, 0]?,
     };
-    assert_eq!(rt; compared(&elimination, &b, &c), Some(Ordering::Greater));
-    assert_eq!(rt;
-        compared(&elimination, &term(alloc, 1, &[2, 0])?, &c),
-        Some(Ordering::Greater)
-    );
-    assert!(rt; !elimination.is_positive());
-    assert_eq!(rt; compared(&block, &a, &term(alloc, 0, &[1])?), None);
+    let yy = term(alloc, 0, &[0, 2])?;
+    let x = term(alloc, 1, &[1, 0])?;
+    let xx = term(alloc, 1, &[2, 0])?;
+    assert_eq!(rt; compared(&order, &yy, &x), Some(Ordering::Greater));
+    assert_eq!(rt; compared(&order, &xx, &x), Some(Ordering::Greater));
+    assert!(rt; !order.is_positive());
     Ok(())
 }
 
@@ -91,17 +104,43 @@ fn pair<M: Monomial>(m: &M) -> Option<(u32, u32)> {
 }
 
 #[test]
-fn monomials_multiply_and_divide(rt: HostRuntime) -> Result<(), Fail> {
+fn monomials_multiply(rt: HostRuntime) -> Result<(), Fail> {
     let alloc = rt.alloc();
     let a = Mono::from_exps(alloc, &[3, 1])?;
     let b = Mono::from_exps(alloc, &[1, 1])?;
-    let c = Mono::from_exps(alloc, &[0, 4])?;
-    assert_eq!(rt; pair(&a.product(alloc, &b)?), Some((4, 2)));
+    let product = a.product(alloc, &b)?;
+    assert_eq!(rt; pair(&product), Some((4, 2)));
+    Ok(())
+}
+
+#[test]
+fn monomials_divide(rt: HostRuntime) -> Result<(), Fail> {
+    let alloc = rt.alloc();
+    let a = Mono::from_exps(alloc, &[3, 1])?;
+    let b = Mono::from_exps(alloc, &[1, 1])?;
     assert!(rt; b.divides(&a));
-    assert!(rt; !c.divides(&a));
-    assert_eq!(rt; pair(&a.quotient(alloc, &b)?), Some((2, 0)));
-    assert_eq!(rt; pair(&a.lcm(alloc, &c)?), Some((3, 4)));
-    assert_eq!(rt; pair(&c.copy(alloc)?), Some((0, 4)));
+    let quotient = a.quotient(alloc, &b)?;
+    assert_eq!(rt; pair(&quotient), Some((2, 0)));
+    Ok(())
+}
+
+#[test]
+fn monomials_have_multiples(rt: HostRuntime) -> Result<(), Fail> {
+    let alloc = rt.alloc();
+    let a = Mono::from_exps(alloc, &[3, 1])?;
+    let b = Mono::from_exps(alloc, &[0, 4])?;
+    assert!(rt; !b.divides(&a));
+    let multiple = a.lcm(alloc, &b)?;
+    assert_eq!(rt; pair(&multiple), Some((3, 4)));
+    Ok(())
+}
+
+#[test]
+fn monomials_are_copied(rt: HostRuntime) -> Result<(), Fail> {
+    let alloc = rt.alloc();
+    let a = Mono::from_exps(alloc, &[0, 4])?;
+    let copy = a.copy(alloc)?;
+    assert_eq!(rt; pair(&copy), Some((0, 4)));
     Ok(())
 }
 

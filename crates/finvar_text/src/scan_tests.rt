@@ -1,6 +1,7 @@
 use crate::scan::{SyntaxFault, syntax_tree};
-use crate::syntax::{ItemText, ScriptText};
+use crate::syntax::{ItemText, MatrixText, ScriptText};
 use std::alloc::Global;
+use std::process::Abort;
 use std::test::Fail;
 
 /// The place of the first syntax fault, or None for a script.
@@ -98,6 +99,40 @@ fn whole_script(alloc: Global) -> Result<ScriptText<'static>, Fail> {
     }
 }
 
+fn examine_matrix(rt: &impl Abort, matrix: &MatrixText<'static>) {
+    assert_eq!(rt; matrix.rows, b"2".as_slice());
+    assert_eq!(rt; matrix.cols, b"1".as_slice());
+    assert_eq!(rt; matrix.entries.len(), 2);
+    assert!(rt;
+        matrix
+            .entries
+            .iter()
+            .any(|e| e.is_negative && e.digits == b"1".as_slice())
+    );
+}
+
+fn examine_item(rt: &impl Abort, i: usize, item: &ItemText<'static>) {
+    match item {
+        ItemText::Declared(matrix) => {
+            assert_eq!(rt; i, 0);
+            examine_matrix(rt, matrix);
+        }
+        ItemText::Printed { name, with_word } => {
+            assert_eq!(rt; *name, b"A".as_slice());
+            assert_eq!(rt; *with_word, i == 1);
+        }
+        ItemText::Called(call) => {
+            assert_eq!(rt; i, 3);
+            assert_eq!(rt; call.third, b"I".as_slice());
+            assert_eq!(rt; call.arguments.len(), 2);
+        }
+        ItemText::Lib(bytes) => {
+            assert_eq!(rt; i, 4);
+            assert_eq!(rt; *bytes, b"m".as_slice());
+        }
+    }
+}
+
 #[test]
 fn finds_the_tree(rt: HostRuntime) -> Result<(), Fail> {
     let script = whole_script(rt.alloc())?;
@@ -108,33 +143,7 @@ fn finds_the_tree(rt: HostRuntime) -> Result<(), Fail> {
     assert_eq!(rt; script.variables.len(), 2);
     assert_eq!(rt; script.items.len(), 5);
     for (i, item) in script.items.iter().enumerate() {
-        match item {
-            ItemText::Declared(matrix) => {
-                assert_eq!(rt; i, 0);
-                assert_eq!(rt; matrix.rows, b"2".as_slice());
-                assert_eq!(rt; matrix.cols, b"1".as_slice());
-                assert_eq!(rt; matrix.entries.len(), 2);
-                assert!(rt;
-                    matrix
-                        .entries
-                        .iter()
-                        .any(|e| e.is_negative && e.digits == b"1".as_slice())
-                );
-            }
-            ItemText::Printed { name, with_word } => {
-                assert_eq!(rt; *name, b"A".as_slice());
-                assert_eq!(rt; *with_word, i == 1);
-            }
-            ItemText::Called(call) => {
-                assert_eq!(rt; i, 3);
-                assert_eq!(rt; call.third, b"I".as_slice());
-                assert_eq!(rt; call.arguments.len(), 2);
-            }
-            ItemText::Lib(bytes) => {
-                assert_eq!(rt; i, 4);
-                assert_eq!(rt; *bytes, b"m".as_slice());
-            }
-        }
+        examine_item(&rt, i, item);
     }
     Ok(())
 }

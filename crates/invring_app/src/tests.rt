@@ -350,10 +350,27 @@ fn has_a_line_for_each_length_and_place(rt: HostRuntime) -> Result<(), Fail> {
     Ok(())
 }
 
+/// The same of a run with sixteen bytes a read and five a write, of which these fail, by their numbers.
+fn failing_run(
+    alloc: Global,
+    failed_reads: &[u64],
+    room: usize,
+    failed_writes: &[u64],
+) -> Result<(Status, Vec<u8>, Vec<u8>), Fail> {
+    let script = Vec::from_slice(alloc, SWAP)?;
+    let mut source = MemSource::new(script, 16, Vec::from_slice(alloc, failed_reads)?);
+    let mut output = MemSink::new(alloc, 5, Vec::from_slice(alloc, failed_writes)?, room)?;
+    let mut errors = CleanSink::new(alloc, 64)?;
+    let words = strings(alloc, &["basis", "2"])?;
+    let status = run(alloc, &words, &mut source, &mut output, &mut errors);
+    let taken = Vec::from_slice(alloc, output.taken())?;
+    let line = Vec::from_slice(alloc, errors.taken().unwrap_or(b"more than fits"))?;
+    Ok((status, taken, line))
+}
+
 #[test]
 fn tells_faults_of_the_outside(rt: HostRuntime) -> Result<(), Fail> {
     let alloc = rt.alloc();
-    let words = strings(alloc, &["basis", "2"])?;
     let table: [(&[u64], usize, &[u64], Status, &[u8], &[u8]); 4] = [
         (&[2], 64, &[], Status::ReadFault, b"", b"read\n"),
         (&[], 3, &[], Status::WriteFault, b"x^2", b"write\n"),
@@ -361,14 +378,10 @@ fn tells_faults_of_the_outside(rt: HostRuntime) -> Result<(), Fail> {
         (&[9], 64, &[9], Status::Done, b"x^2+y^2\nx*y\n", b""),
     ];
     for (failed_reads, room, failed_writes, status, text, line) in table {
-        let script = Vec::from_slice(alloc, SWAP)?;
-        let mut source = MemSource::new(script, 16, Vec::from_slice(alloc, failed_reads)?);
-        let mut output = MemSink::new(alloc, 5, Vec::from_slice(alloc, failed_writes)?, room)?;
-        let mut errors = CleanSink::new(alloc, 64)?;
-        let ended = run(alloc, &words, &mut source, &mut output, &mut errors);
+        let (ended, taken, told) = failing_run(alloc, failed_reads, room, failed_writes)?;
         assert_eq!(rt; ended, status);
-        assert_eq!(rt; output.taken(), text);
-        assert_eq!(rt; errors.taken(), Some(line));
+        assert_eq!(rt; taken.as_slice(), text);
+        assert_eq!(rt; told.as_slice(), line);
     }
     Ok(())
 }

@@ -129,41 +129,59 @@ fn computes_over_prime_fields(rt: HostRuntime) -> Result<(), Fail> {
     Ok(())
 }
 
-fn examine_empty<F: Field<Elem = u16>>(
+fn examine_empty_forms<F: Field<Elem = u16>>(
     rt: &impl Abort,
     alloc: Global,
     field: &F,
 ) -> Result<(), Memory> {
     let no_rows = matrix(rt, alloc, field, 3, 0, 3, &[])?;
-    let no_columns = matrix(rt, alloc, field, 3, 3, 0, &[])?;
     let unit = matrix(rt, alloc, field, 3, 3, 3, &[1, 0, 0, 0, 1, 0, 0, 0, 1])?;
     assert_eq!(rt; identity(alloc, field, 3)?, unit);
     assert_eq!(rt; echelon(alloc, field, &no_rows)?.matrix, no_rows);
     assert_eq!(rt; kernel(alloc, field, &no_rows)?, unit);
+    Ok(())
+}
+
+fn examine_narrow_forms<F: Field<Elem = u16>>(
+    rt: &impl Abort,
+    alloc: Global,
+    field: &F,
+) -> Result<(), Memory> {
+    let no_columns = matrix(rt, alloc, field, 3, 3, 0, &[])?;
     let nothing = matrix(rt, alloc, field, 3, 0, 0, &[])?;
     assert_eq!(rt; echelon(alloc, field, &no_columns)?.matrix, nothing);
     assert_eq!(rt; kernel(alloc, field, &no_columns)?, nothing);
-    let zeros = values(rt, alloc, field, 3, &[0, 0, 0])?;
-    assert_eq!(rt; zeros.len(), 3);
-    assert!(rt; solve(alloc, field, &no_columns, &zeros)?.is_some_and(|x| x.is_empty()));
-    let none = values(rt, alloc, field, 3, &[])?;
-    assert_eq!(rt; none.len(), 0);
-    assert_eq!(rt;
-        solve(alloc, field, &no_rows, &none)?.map_or(0, |x| x.len()),
-        3
-    );
-    let right = values(rt, alloc, field, 3, &[0, 0, 1])?;
-    assert_eq!(rt; right.len(), 3);
-    assert!(rt; solve(alloc, field, &no_columns, &right)?.is_none());
     assert!(rt; inverse(alloc, field, &nothing)?.is_some());
-    let wanted = matrix(rt, alloc, field, 3, 3, 3, &[0; 9])?;
-    assert_eq!(rt; multiply(alloc, field, &no_columns, &no_rows)?, wanted);
     Ok(())
+}
+
+/// How many unknowns the solution of a system has, if it has one.
+fn unknowns<F: Field<Elem = u16>>(
+    rt: &impl Abort,
+    alloc: Global,
+    field: &F,
+    rows: u64,
+    cols: u64,
+    right: &[u16],
+) -> Result<Option<usize>, Memory> {
+    let a = matrix(rt, alloc, field, 3, rows, cols, &[])?;
+    let right = values(rt, alloc, field, 3, right)?;
+    assert_eq!(rt; right.len() as u64, rows);
+    Ok(solve(alloc, field, &a, &right)?.map(|x| x.len()))
 }
 
 #[test]
 fn takes_empty_matrices(rt: HostRuntime) -> Result<(), Fail> {
+    let alloc = rt.alloc();
     let field = PrimeField::new(3).map_err(|_| "listed")?;
-    examine_empty(&rt, rt.alloc(), &field)?;
+    examine_empty_forms(&rt, alloc, &field)?;
+    examine_narrow_forms(&rt, alloc, &field)?;
+    assert_eq!(rt; unknowns(&rt, alloc, &field, 3, 0, &[0, 0, 0])?, Some(0));
+    assert_eq!(rt; unknowns(&rt, alloc, &field, 3, 0, &[0, 0, 1])?, None);
+    assert_eq!(rt; unknowns(&rt, alloc, &field, 0, 3, &[])?, Some(3));
+    let no_rows = matrix(&rt, alloc, &field, 3, 0, 3, &[])?;
+    let no_columns = matrix(&rt, alloc, &field, 3, 3, 0, &[])?;
+    let wanted = matrix(&rt, alloc, &field, 3, 3, 3, &[0; 9])?;
+    assert_eq!(rt; multiply(alloc, &field, &no_columns, &no_rows)?, wanted);
     Ok(())
 }
