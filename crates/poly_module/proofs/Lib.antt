@@ -9,8 +9,6 @@ pub mod Halves
 pub mod Leads
 pub mod GreatestValues
 pub mod CheckedEntries
-pub mod SmallFactors
-pub mod SmallSubstitutions
 pub mod Factors
 pub mod ModuleElements
 pub mod KeyGrowth
@@ -33,3 +31,9 @@ pub mod OverSpans
 pub mod FittingKeys
 pub mod HomogeneousSummands
 pub mod LeadLaws
+pub mod SpaceVectorLaws
+pub mod EntryCoefficients
+pub mod VectorDegrees
+pub mod ConstantSteps
+pub mod LookupSteps
+pub mod Room

@@ -15,7 +15,7 @@ use Rattle.alg_core.specs.Vectors.{Vect, vectors, coef_at, plus, zero_vector}
 use Rattle.alg_core.specs.Spaces.{SpaceOver}
 use Rattle.alg_core.specs.SpaceOrder.{key_order}
 use Rattle.poly_module.specs.Parts.{Supp}
-use Rattle.poly_module.specs.Modules.{IsSubspace, LeadBy, InModule, IsBasis, listed}
+use Rattle.poly_module.specs.Modules.{IsSubspace, LeadBy, InModule, IsGroebnerBasis, listed}
 use Rattle.poly_module.specs.ReducedLists.{LeadsFall, IsReduced, FitsOrder, IsReducedBasis}
 use Rattle.poly_module.proofs.ModuleElements.{module_zero, module_subspace, module_positions, module_within, module_part}
 use Rattle.alg_core.specs.SpaceGrading.{degree}
@@ -171,7 +171,7 @@ module _ {E : Type 0} (k : FieldOn E) where
 
 module _ {E : Type 0} (S : SpaceOver E) {I : Type 0} (g : I → Vect S.field) where
   -- a reduced basis is a basis of the module that it generates
-  pub reduced_is_basis : (vs : List (Vect S.field)) → IsReducedBasis S g vs → IsBasis S.field (listed S.field vs) (key_order S)
+  pub reduced_is_basis : (vs : List (Vect S.field)) → IsReducedBasis S g vs → IsGroebnerBasis S.field (listed S.field vs) (key_order S)
   reduced_is_basis vs a v t inside lead =
       let within = module_within S.field (listed S.field vs) g (listed_has S.field (InModule S.field g) (module_zero S.field g) vs a.reduced.inside) v inside in
       let c = a.reduced.covers v t within lead in

@@ -8,7 +8,8 @@ use Rattle.alg_core.specs.Spaces.{SpaceOver, entries}
 use Rattle.poly_module.specs.Polynomials.{vector_ring}
 use Rattle.poly_module.specs.Substitutions.{power}
 use Rattle.poly_module.specs.GreatestExponents.{total, peak, highest}
-use Rattle.poly_module.specs.PowerTables.{AllAt, Covers, IsOf, IsPowers, IsTable, value_of}
+use Rattle.poly_module.specs.SpaceVectors.{IsVectorOf}
+use Rattle.poly_module.specs.PowerTables.{AllAt, Covers, IsPowers, IsTable, value_of}
 use Rattle.poly_module.proofs.ExponentBounds.{mul_mono}
 use Rattle.poly_module.proofs.PowerSteps.{all_at_push, all_at_none, all_at_read}
 
@@ -98,8 +99,8 @@ module _ {E M : Type 0} (S : SpaceOver E) (exps : M → List ℕ) where
 
   -- reading one power
   pub table_power : (images : List Terms) (t : List (List Terms)) (i n : ℕ) (row : List Terms) (p : Terms) (a : List ℕ) → i < length images → row ≡ get_or t i row → n ≡ get_or a i 0 → p ≡ get_or row n p
-      → IsTable S exps images t → Covers t a → (n < length row) × IsOf S exps (power (vector_ring S.field) (value_of S exps images i) n) p
+      → IsTable S exps images t → Covers t a → (n < length row) × IsVectorOf S exps (power (vector_ring S.field) (value_of S exps images i) n) p
   table_power images t i n row p a w read e got table covers =
       let there : i < length t = omega (arith, table.1) in
       let enough : n < length row = let c = all_at_read (λ (j : ℕ) (ps : List Terms). get_or a j 0 < length ps) t i row there read covers in omega arith in
-      (enough, all_at_read (λ (m : ℕ) (q : Terms). IsOf S exps (power (vector_ring S.field) (value_of S exps images i) m) q) row n p enough got (all_at_read (λ (j : ℕ) (ps : List Terms). IsPowers S exps (value_of S exps images j) ps) t i row there read table.0))
+      (enough, all_at_read (λ (m : ℕ) (q : Terms). IsVectorOf S exps (power (vector_ring S.field) (value_of S exps images i) m) q) row n p enough got (all_at_read (λ (j : ℕ) (ps : List Terms). IsPowers S exps (value_of S exps images j) ps) t i row there read table.0))

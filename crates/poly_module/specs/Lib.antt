@@ -15,3 +15,5 @@ pub mod PowerTables
 pub mod Spans
 pub mod Echelons
 pub mod Combinations
+pub mod SpaceVectors
+pub mod Sizes

@@ -7,7 +7,7 @@
 --   listed k vs            the family of the members of a list: 0 past its end
 --   IsSubspace k U         U has 0, and sums and multiples of what it has
 --   LeadBy k o v t         t is the lead of v by the order o of the keys
---   IsBasis k o g          the lead of each element of the module, but 0, is a multiple of the lead of a member
+--   IsGroebnerBasis k o g          the lead of each element of the module, but 0, is a multiple of the lead of a member
 use Rattle.std.specs.Prelude.{◌≡◌, ℕ, zero, suc, List, [], ◌∷◌}
 use Rattle.alg_core.specs.Fields.{FieldOn, Scalar, scalars, is_field}
 use Rattle.alg_core.specs.Monomials.{Mon}
@@ -56,5 +56,5 @@ module _ {E : Type 0} (k : FieldOn E) where
     InModule v = (l : List (Vect k × I)) × ArePolynomials l × (multiples l ≡ v)
 
     -- the lead of each element but 0 is a multiple of the lead of a member
-    abbrev pub IsBasis : OrderOn Key → Type 0
-    IsBasis o = (v : Vect k) (t : Key) → InModule v → LeadBy o v t → (i : I) × (s : Key) × LeadBy o (g i) s × KeyDivides s t
+    abbrev pub IsGroebnerBasis : OrderOn Key → Type 0
+    IsGroebnerBasis o = (v : Vect k) (t : Key) → InModule v → LeadBy o v t → (i : I) × (s : Key) × LeadBy o (g i) s × KeyDivides s t

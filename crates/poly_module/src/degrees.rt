@@ -1,8 +1,10 @@
-ghost use Rattle.std.specs.Prelude.{◌≡◌, ◌↔◌, ◌<◌, ◌≤◌, ◌^◌, ℕ, IsTrue, IsNone, IfSome, All, Any};
+ghost use Rattle.std.specs.Prelude.{◌≡◌, ◌↔◌, ◌≤◌, ◌-◌, ◌^◌, ℕ, IsTrue, IsNone, IfSome, All, Any};
 ghost use Rattle.alg_core.specs.Keys.{key};
-ghost use Rattle.alg_core.specs.Spaces.{over, place, entries, Fits, IsPlace};
+ghost use Rattle.alg_core.specs.Spaces.{over, place, entries, IsPlace};
 ghost use Rattle.alg_core.specs.SpaceGrading.{degree};
-ghost use Rattle.alg_core.specs.Vectors.{vec, zero_vector};
+ghost use Rattle.alg_core.specs.Vectors.{zero_vector};
+ghost use Rattle.poly_module.specs.Degrees.{IsDegree, IsHomogeneous};
+ghost use Rattle.poly_module.specs.SpaceVectors.{vector_of, IsVector, IsUpTo};
 
 use crate::vector::Vector;
 use alg_core::{Field, ModTerm, Monomial, Space, TermOrder, weighted_degree};
@@ -12,9 +14,10 @@ pub fn degree<F: Field, O: TermOrder, M: Monomial>(
     space: &Space<F, O>,
     a: &Vector<F::Elem, M>,
 ) -> Option<u64>
-    requires fits { Fits (over F.field O.order space.now) (entries M.exps a.now) }
-    requires small { let S = over F.field O.order space.now in All (λ e. degree S (key e.0) < 2 ^ 64) (entries M.exps a.now) }
-    ensures none { let k = F.field space.now.field in IsNone result ↔ (vec k (entries M.exps a.now) ≡ zero_vector k) }
+    requires vector { IsVector (over F.field O.order space.now) M.exps a.now }
+    requires small { let S = over F.field O.order space.now in IsUpTo S (2 ^ 64 - 1) (vector_of S M.exps a.now) }
+    ensures none { let S = over F.field O.order space.now in IsNone result ↔ (vector_of S M.exps a.now ≡ zero_vector S.field) }
+    ensures degree { let S = over F.field O.order space.now in IfSome result (IsDegree S (vector_of S M.exps a.now)) }
     ensures reached { let S = over F.field O.order space.now in IfSome result (λ d. Any (λ e. degree S (key e.0) ≡ d) (entries M.exps a.now)) }
     ensures greatest { let S = over F.field O.order space.now in IfSome result (λ d. All (λ e. degree S (key e.0) ≤ d) (entries M.exps a.now)) }
 {
@@ -33,8 +36,10 @@ pub fn is_homogeneous<F: Field, O: TermOrder, M: Monomial>(
     space: &Space<F, O>,
     a: &Vector<F::Elem, M>,
 ) -> bool
-    requires fits { Fits (over F.field O.order space.now) (entries M.exps a.now) }
-    ensures is { let S = over F.field O.order space.now in IsTrue result ↔ ((d : ℕ) × All (λ e. degree S (key e.0) ≡ d) (entries M.exps a.now)) }
+    requires vector { IsVector (over F.field O.order space.now) M.exps a.now }
+    ensures homogeneous { let S = over F.field O.order space.now in
+        IsTrue result ↔ ((d : ℕ) × IsHomogeneous S d (vector_of S M.exps a.now)) }
+    ensures terms { let S = over F.field O.order space.now in IsTrue result ↔ ((d : ℕ) × All (λ e. degree S (key e.0) ≡ d) (entries M.exps a.now)) }
 {
     let terms = a.terms();
     if terms.is_empty() {

@@ -10,13 +10,14 @@ ghost use Rattle.alg_core.specs.Vectors.{Vect, vectors, coef_at, plus, zero_vect
 ghost use Rattle.alg_core.specs.Spaces.{over};
 ghost use Rattle.alg_core.specs.SpaceOrder.{key_order};
 ghost use Rattle.alg_core.specs.SpaceGrading.{weight, degree};
+ghost use Rattle.poly_module.specs.Signs.{minus};
 ghost use Rattle.poly_module.specs.Polynomials.{single_vector, one_vector, product, vector_ring, vector_algebra};
 ghost use Rattle.poly_module.specs.Substitutions.{image, monomial_value, variable_vector, position_vector, substitute};
 ghost use Rattle.poly_module.specs.Parts.{Supp, select, passing, IsPolynomial, InVariables};
 ghost use Rattle.poly_module.specs.Variables.{variables};
 ghost use Rattle.poly_module.specs.Degrees.{IsGraded, parts_below, IsHomogeneous, part, IsDegree, HasDegree};
 ghost use Rattle.poly_module.specs.Forms.{key_weight, IsForm, form_part, AreForms};
-ghost use Rattle.poly_module.specs.Modules.{IsSubspace, InModule, summands, listed, IsBasis, LeadBy};
+ghost use Rattle.poly_module.specs.Modules.{IsSubspace, InModule, summands, listed, IsGroebnerBasis, LeadBy};
 ghost use Rattle.poly_module.specs.ReducedLists.{FitsOrder, IsReducedBasis};
 ghost use Rattle.poly_module.specs.Spans.{combine, Independent, Greedy};
 ghost use Rattle.poly_module.specs.Echelons.{Spans, IsEchelon};
@@ -25,7 +26,8 @@ ghost use Rattle.poly_module.specs.Combinations.{mark_value, term_value, combina
 use alg_core::{Field, Space, TermOrder};
 
 /// The product of vectors is that of a commutative ring, linear in each factor; at single keys it
-/// multiplies the keys, and a multiple by a monomial is a product with it.
+/// multiplies the keys, and a multiple by a monomial is a product with it. A difference and what was
+/// taken away add up.
 pub fn vector_products<F: Field>(_field: &F)
     ensures comm { let k = F.field _field.now in (u v : Vect k) → product k u v ≡ product k v u }
     ensures assoc { let k = F.field _field.now in (u v w : Vect k) → product k (product k u v) w ≡ product k u (product k v w) }
@@ -35,6 +37,7 @@ pub fn vector_products<F: Field>(_field: &F)
     ensures single { let k = F.field _field.now in (s t : Key) → product k (single_vector k s) (single_vector k t) ≡ single_vector k (keys.◌·◌ s t) }
     ensures monomial { let k = F.field _field.now in (m : Mon) (v : Vect k) → shift k m v ≡ product k (single_vector k (0, m)) v }
     ensures ring { let k = F.field _field.now in (u v : Vect k) → (vector_ring k).◌*◌ u v ≡ product k u v }
+    ensures difference { let k = F.field _field.now in (u v : Vect k) → plus k (minus k u v) v ≡ u }
 {}
 
 /// A substitution is the one homomorphism with its images, at which positions count for nothing; one
@@ -127,7 +130,7 @@ pub fn reduced_bases<F: Field, O: TermOrder>(_space: &Space<F, O>)
         → (g : ℕ → Vect S.field) → ((i : ℕ) → Supp S.field (FitsOrder S) (g i))
         → (vs ws : List (Vect S.field)) → IsReducedBasis S g vs → IsReducedBasis S g ws → vs ≡ ws }
     ensures basis { let S = over F.field O.order _space.now in (g : ℕ → Vect S.field)
-        → (vs : List (Vect S.field)) → IsReducedBasis S g vs → IsBasis S.field (listed S.field vs) (key_order S) }
+        → (vs : List (Vect S.field)) → IsReducedBasis S g vs → IsGroebnerBasis S.field (listed S.field vs) (key_order S) }
     ensures homogeneous { let S = over F.field O.order _space.now in (g : ℕ → Vect S.field) (d : ℕ → ℕ)
         → ((i : ℕ) → IsHomogeneous S (d i) (g i)) → S.order.is_positive ≡ true → ((i : ℕ) → Supp S.field (FitsOrder S) (g i))
         → (vs : List (Vect S.field)) → IsReducedBasis S g vs

@@ -2,21 +2,22 @@
 //! substitution.
 #![tactic(auto)]
 
+mod constructors;
+mod copies;
 mod degrees;
 mod greatest;
 mod laws;
+mod lookups;
 mod merge;
 mod multiple;
 mod product;
 mod signs;
 mod substitution;
-#[cfg(test)]
-mod substitution_tests;
-#[cfg(test)]
-mod tests;
 mod vector;
 mod whole;
 
+pub use constructors::{monomial, one, variable};
+pub use copies::copy;
 pub use degrees::{degree, is_homogeneous};
 pub use greatest::lead;
 pub use laws::{
@@ -24,9 +25,10 @@ pub use laws::{
     independent_lists, mark_values, module_elements, reduced_bases, selections, substitutions,
     vector_degrees, vector_leads, vector_products,
 };
+pub use lookups::{are_equal, coefficient};
 pub use merge::{add, sub};
 pub use multiple::{mul_term, scale};
 pub use product::mul;
 pub use substitution::substitute;
 pub use vector::{Comb, Poly, Vector};
-pub use whole::make;
+pub use whole::{make, single};

@@ -1,30 +1,15 @@
 ghost use Rattle.std.specs.Prelude.{◌≡◌, IfOk};
-ghost use Rattle.alg_core.specs.Spaces.{over, entry, entries, Fits};
+ghost use Rattle.alg_core.specs.Spaces.{over, entries};
 ghost use Rattle.alg_core.specs.Vectors.{vec, plus};
-ghost use Rattle.poly_module.specs.Signs.{signed_entries};
+ghost use Rattle.poly_module.specs.Signs.{signed_entries, minus};
+ghost use Rattle.poly_module.specs.SpaceVectors.{vector_of, IsVector, IsVectorOf};
 
+use crate::copies::term_at;
 use crate::signs::{Sign, signed};
 use crate::vector::Vector;
-use alg_core::{Field, Memory, ModTerm, Monomial, Space, Term, TermOrder};
+use alg_core::{Field, Memory, Monomial, Space, TermOrder};
 use std::alloc::Global;
 use std::cmp::Ordering;
-
-/// A coefficient at the same position and monomial, in memory of its own.
-pub(crate) fn term_at<E: Copy, M: Monomial>(
-    alloc: Global,
-    coef: E,
-    at: &ModTerm<M>,
-) -> Result<Term<E, M>, Memory>
-    ensures is { IfOk result (λ t. entry M.exps t ≡ ((at.now.pos, M.exps at.now.mono), coef)) }
-{
-    Ok(Term {
-        coef,
-        at: ModTerm {
-            pos: at.pos,
-            mono: at.mono.copy(alloc)?,
-        },
-    })
-}
 
 /// The sum a + b.
 pub fn add<F: Field, O: TermOrder, M: Monomial>(
@@ -33,26 +18,26 @@ pub fn add<F: Field, O: TermOrder, M: Monomial>(
     a: &Vector<F::Elem, M>,
     b: &Vector<F::Elem, M>,
 ) -> Result<Vector<F::Elem, M>, Memory>
-    requires left { Fits (over F.field O.order space.now) (entries M.exps a.now) }
-    requires right { Fits (over F.field O.order space.now) (entries M.exps b.now) }
-    ensures fits { IfOk result (λ v. Fits (over F.field O.order space.now) (entries M.exps v)) }
-    ensures sum { let k = F.field space.now.field in IfOk result (λ v. vec k (entries M.exps v) ≡ plus k (vec k (entries M.exps a.now)) (vec k (entries M.exps b.now))) }
+    requires left { IsVector (over F.field O.order space.now) M.exps a.now }
+    requires right { IsVector (over F.field O.order space.now) M.exps b.now }
+    ensures sum { let S = over F.field O.order space.now in let x = M.exps in
+        IfOk result (IsVectorOf S x (plus S.field (vector_of S x a.now) (vector_of S x b.now))) }
 {
     let sum = merged(alloc, space, a, Sign::Plus, b)?;
     Ok(sum)
 }
 
-/// The difference a - b: the vector whose sum with b is a.
+/// The difference a - b.
 pub fn sub<F: Field, O: TermOrder, M: Monomial>(
     alloc: Global,
     space: &Space<F, O>,
     a: &Vector<F::Elem, M>,
     b: &Vector<F::Elem, M>,
 ) -> Result<Vector<F::Elem, M>, Memory>
-    requires left { Fits (over F.field O.order space.now) (entries M.exps a.now) }
-    requires right { Fits (over F.field O.order space.now) (entries M.exps b.now) }
-    ensures fits { IfOk result (λ v. Fits (over F.field O.order space.now) (entries M.exps v)) }
-    ensures difference { let k = F.field space.now.field in IfOk result (λ v. plus k (vec k (entries M.exps v)) (vec k (entries M.exps b.now)) ≡ vec k (entries M.exps a.now)) }
+    requires left { IsVector (over F.field O.order space.now) M.exps a.now }
+    requires right { IsVector (over F.field O.order space.now) M.exps b.now }
+    ensures difference { let S = over F.field O.order space.now in let x = M.exps in
+        IfOk result (IsVectorOf S x (minus S.field (vector_of S x a.now) (vector_of S x b.now))) }
 {
     let difference = merged(alloc, space, a, Sign::Minus, b)?;
     Ok(difference)
@@ -67,10 +52,11 @@ fn merged<F: Field, O: TermOrder, M: Monomial>(
     sign: Sign,
     b: &Vector<F::Elem, M>,
 ) -> Result<Vector<F::Elem, M>, Memory>
-    requires left { Fits (over F.field O.order space.now) (entries M.exps a.now) }
-    requires right { Fits (over F.field O.order space.now) (entries M.exps b.now) }
-    ensures fits { IfOk result (λ v. Fits (over F.field O.order space.now) (entries M.exps v)) }
-    ensures sum { let k = F.field space.now.field in IfOk result (λ v. vec k (entries M.exps v) ≡ plus k (vec k (entries M.exps a.now)) (vec k (signed_entries k sign (entries M.exps b.now)))) }
+    requires left { IsVector (over F.field O.order space.now) M.exps a.now }
+    requires right { IsVector (over F.field O.order space.now) M.exps b.now }
+    ensures fits { IfOk result (IsVector (over F.field O.order space.now) M.exps) }
+    ensures sum { let S = over F.field O.order space.now in let x = M.exps in
+        IfOk result (λ v. vector_of S x v ≡ plus S.field (vector_of S x a.now) (vec S.field (signed_entries S.field sign (entries x b.now)))) }
 {
     let xs = a.terms();
     let ys = b.terms();

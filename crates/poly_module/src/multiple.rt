@@ -1,11 +1,12 @@
-ghost use Rattle.std.specs.Prelude.{◌≡◌, IfOk, All, length};
+ghost use Rattle.std.specs.Prelude.{◌≡◌, IfOk, length};
 ghost use Rattle.alg_core.specs.Fields.{Has};
 ghost use Rattle.alg_core.specs.Monomials.{mono};
-ghost use Rattle.alg_core.specs.ExponentLists.{product, Within};
-ghost use Rattle.alg_core.specs.Spaces.{over, entries, Fits};
-ghost use Rattle.alg_core.specs.Vectors.{vec, scale, shift};
+ghost use Rattle.alg_core.specs.Spaces.{over};
+ghost use Rattle.alg_core.specs.Vectors.{scale, shift};
+ghost use Rattle.poly_module.specs.SpaceVectors.{vector_of, IsVector, IsVectorOf};
+ghost use Rattle.poly_module.specs.Sizes.{HasRoomAt};
 
-use crate::merge::term_at;
+use crate::copies::term_at;
 use crate::vector::Vector;
 use alg_core::{Field, Memory, ModTerm, Monomial, Space, Term, TermOrder, is_zero};
 use std::alloc::Global;
@@ -18,9 +19,9 @@ pub fn scale<F: Field, O: TermOrder, M: Monomial>(
     a: &Vector<F::Elem, M>,
 ) -> Result<Vector<F::Elem, M>, Memory>
     requires value { Has (F.field space.now.field) c }
-    requires fits { Fits (over F.field O.order space.now) (entries M.exps a.now) }
-    ensures fits { IfOk result (λ v. Fits (over F.field O.order space.now) (entries M.exps v)) }
-    ensures multiple { let k = F.field space.now.field in IfOk result (λ v. vec k (entries M.exps v) ≡ scale k c (vec k (entries M.exps a.now))) }
+    requires vector { IsVector (over F.field O.order space.now) M.exps a.now }
+    ensures multiple { let S = over F.field O.order space.now in let x = M.exps in
+        IfOk result (IsVectorOf S x (scale S.field c (vector_of S x a.now))) }
 {
     let xs = a.terms();
     let mut terms = Vec::new(alloc);
@@ -45,10 +46,10 @@ pub fn mul_term<F: Field, O: TermOrder, M: Monomial>(
 ) -> Result<Vector<F::Elem, M>, Memory>
     requires value { Has (F.field space.now.field) c }
     requires wide { length (M.exps m.now) ≡ length space.now.grading.weights.items }
-    requires fits { Fits (over F.field O.order space.now) (entries M.exps a.now) }
-    requires small { All (λ e. Within M.MAX_EXP (product (M.exps m.now) e.0.1)) (entries M.exps a.now) }
-    ensures fits { IfOk result (λ v. Fits (over F.field O.order space.now) (entries M.exps v)) }
-    ensures multiple { let k = F.field space.now.field in IfOk result (λ v. vec k (entries M.exps v) ≡ scale k c (shift k (mono (M.exps m.now)) (vec k (entries M.exps a.now)))) }
+    requires vector { IsVector (over F.field O.order space.now) M.exps a.now }
+    requires room { HasRoomAt M.MAX_EXP M.exps (M.exps m.now) a.now }
+    ensures multiple { let S = over F.field O.order space.now in let x = M.exps in
+        IfOk result (IsVectorOf S x (scale S.field c (shift S.field (mono (x m.now)) (vector_of S x a.now)))) }
 {
     let xs = a.terms();
     let mut terms = Vec::new(alloc);

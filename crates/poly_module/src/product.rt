@@ -1,8 +1,8 @@
 ghost use Rattle.std.specs.Prelude.{◌≡◌, IfOk, All};
-ghost use Rattle.alg_core.specs.ExponentLists.{product, Within};
-ghost use Rattle.alg_core.specs.Spaces.{over, entries, IsTerm, Fits};
-ghost use Rattle.alg_core.specs.Vectors.{vec};
-ghost use Rattle.poly_module.specs.Polynomials as polynomials;
+ghost use Rattle.alg_core.specs.Spaces.{over, entries, IsTerm};
+ghost use Rattle.poly_module.specs.Polynomials.{product};
+ghost use Rattle.poly_module.specs.SpaceVectors.{vector_of, IsVector, IsVectorOf, IsPoly};
+ghost use Rattle.poly_module.specs.Sizes.{HasRoom};
 
 use crate::merge::add;
 use crate::multiple::mul_term;
@@ -18,12 +18,11 @@ pub fn mul<F: Field, O: TermOrder, M: Monomial>(
     f: &Vector<F::Elem, M>,
     a: &Vector<F::Elem, M>,
 ) -> Result<Vector<F::Elem, M>, Memory>
-    requires polynomial { All (λ e. e.0.0 ≡ 0) (entries M.exps f.now) }
-    requires left { Fits (over F.field O.order space.now) (entries M.exps f.now) }
-    requires right { Fits (over F.field O.order space.now) (entries M.exps a.now) }
-    requires small { All (λ e. All (λ t. Within M.MAX_EXP (product e.0.1 t.0.1)) (entries M.exps a.now)) (entries M.exps f.now) }
-    ensures fits { IfOk result (λ v. Fits (over F.field O.order space.now) (entries M.exps v)) }
-    ensures product { let k = F.field space.now.field in IfOk result (λ v. vec k (entries M.exps v) ≡ polynomials.product k (vec k (entries M.exps f.now)) (vec k (entries M.exps a.now))) }
+    requires polynomial { IsPoly (over F.field O.order space.now) M.exps f.now }
+    requires vector { IsVector (over F.field O.order space.now) M.exps a.now }
+    requires room { HasRoom M.MAX_EXP M.exps f.now a.now }
+    ensures product { let S = over F.field O.order space.now in let x = M.exps in
+        IfOk result (IsVectorOf S x (product S.field (vector_of S x f.now) (vector_of S x a.now))) }
 {
     let product = product_of_terms(alloc, space, f.terms(), a)?;
     Ok(product)
@@ -38,10 +37,10 @@ fn product_of_terms<F: Field, O: TermOrder, M: Monomial>(
 ) -> Result<Vector<F::Elem, M>, Memory>
     requires polynomial { All (λ e. e.0.0 ≡ 0) (entries M.exps factors.now) }
     requires terms { All (IsTerm (over F.field O.order space.now)) (entries M.exps factors.now) }
-    requires fits { Fits (over F.field O.order space.now) (entries M.exps a.now) }
-    requires small { All (λ e. All (λ t. Within M.MAX_EXP (product e.0.1 t.0.1)) (entries M.exps a.now)) (entries M.exps factors.now) }
-    ensures fits { IfOk result (λ v. Fits (over F.field O.order space.now) (entries M.exps v)) }
-    ensures product { let k = F.field space.now.field in IfOk result (λ v. vec k (entries M.exps v) ≡ polynomials.product k (vec k (entries M.exps factors.now)) (vec k (entries M.exps a.now))) }
+    requires vector { IsVector (over F.field O.order space.now) M.exps a.now }
+    requires room { HasRoom M.MAX_EXP M.exps factors.now a.now }
+    ensures product { let S = over F.field O.order space.now in let x = M.exps in
+        IfOk result (IsVectorOf S x (product S.field (vector_of S x factors.now) (vector_of S x a.now))) }
 {
     if factors.len() == 0 {
         return Ok(Vector::of(Vec::new(alloc)));

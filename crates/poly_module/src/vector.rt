@@ -1,6 +1,7 @@
-ghost use Rattle.std.specs.Prelude.{◌≡◌};
+ghost use Rattle.std.specs.Prelude.{◌≡◌, []};
 
 use alg_core::{Mono, Term};
+use std::alloc::Global;
 use std::marker::Model;
 
 /// A vector over a space, seen as the list of its terms.
@@ -28,8 +29,18 @@ impl<E, M> Model for Vector<E, M> {
 }
 
 impl<E, M> Vector<E, M> {
-    /// The vector of these terms.
-    pub(crate) fn of(terms: Vec<Term<E, M>>) -> Vector<E, M>
+    /// The vector 0.
+    pub fn zero(alloc: Global) -> Vector<E, M>
+        ensures is { result ≡ [] }
+    {
+        Vector {
+            terms: Vec::new(alloc),
+        }
+    }
+
+    /// The vector of these terms, which are to fall strictly by the order of its space and to have no
+    /// coefficient 0. Takes no memory: nothing is merged.
+    pub fn of(terms: Vec<Term<E, M>>) -> Vector<E, M>
         ensures is { result ≡ terms.items }
     {
         Vector { terms }

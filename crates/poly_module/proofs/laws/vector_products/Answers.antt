@@ -1,4 +1,5 @@
 use Rattle.poly_module.specs.Products.{product_comm, product_assoc, product_one, product_plus, product_scale, product_single, shift_product, ring_product}
+use Rattle.poly_module.proofs.SpaceVectorLaws.{minus_plus}
 use Rattle.poly_module.proofs.laws.vector_products.Goals as goal
 
 pub returns-clause-comm : goal.returns-clause-comm
@@ -24,3 +25,6 @@ returns-clause-monomial g c = shift_product (g.F.Field.field c.args._field.now)
 
 pub returns-clause-ring : goal.returns-clause-ring
 returns-clause-ring g c = ring_product (g.F.Field.field c.args._field.now)
+
+pub returns-clause-difference : goal.returns-clause-difference
+returns-clause-difference g c = minus_plus (g.F.Field.field c.args._field.now)

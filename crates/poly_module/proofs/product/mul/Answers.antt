@@ -8,4 +8,4 @@ pub product_of_terms-requires-clause-terms : goal.product_of_terms-requires-clau
 product_of_terms-requires-clause-terms g c =
     let S = over g.F.Field.field g.O.TermOrder.order c.args.space.now in
     let exps = g.M.Monomial.exps in
-    subst (λ l. All (IsTerm S) (entries exps l)) (sym c.terms.ensures.is) (fits_terms S exps c.args.f.now c.requires.left)
+    subst (λ l. All (IsTerm S) (entries exps l)) (sym c.terms.ensures.is) (fits_terms S exps c.args.f.now c.requires.polynomial.fits)

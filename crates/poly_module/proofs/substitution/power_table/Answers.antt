@@ -1,6 +1,6 @@
-use Rattle.std.proofs.Common.{◌≡◌, arith}
-use Rattle.std.specs.Prelude.{All}
-use Rattle.alg_core.specs.Spaces.{over, entries, Fits}
+use Rattle.std.proofs.Common.{arith}
+use Rattle.alg_core.specs.Spaces.{over, entries}
+use Rattle.poly_module.specs.SpaceVectors.{IsPoly}
 use Rattle.poly_module.specs.GreatestExponents.{peak}
 use Rattle.poly_module.proofs.PowerSteps.{all_read}
 use Rattle.poly_module.proofs.TableSteps.{row_small, table_start, table_step, table_is, table_covers}
@@ -12,18 +12,15 @@ loop-i-init g c = table_start (over g.F.Field.field g.O.TermOrder.order c.args.s
 pub greatest_exponent-last-requires : goal.greatest_exponent-last-requires
 greatest_exponent-last-requires g c = record { within = λ k d w. let e = c.requires.variables k d w in omega (arith, c.loop-i-test.true) }
 
-pub powers_of-requires-clause-polynomial : goal.powers_of-requires-clause-polynomial
-powers_of-requires-clause-polynomial g c = all_read (λ p. All (λ e. e.0.0 ≡ 0) (entries g.M.Monomial.exps p)) c.args.images.now c.loop-i.i c.index-images-i.result c.loop-i-test.true c.index-images-i.is c.requires.polynomials
-
-pub powers_of-requires-clause-fits : goal.powers_of-requires-clause-fits
-powers_of-requires-clause-fits g c = all_read (λ p. Fits (over g.F.Field.field g.O.TermOrder.order c.args.space.now) (entries g.M.Monomial.exps p)) c.args.images.now c.loop-i.i c.index-images-i.result c.loop-i-test.true c.index-images-i.is c.requires.fit
+pub powers_of-requires-clause-image : goal.powers_of-requires-clause-image
+powers_of-requires-clause-image g c = all_read (IsPoly (over g.F.Field.field g.O.TermOrder.order c.args.space.now) g.M.Monomial.exps) c.args.images.now c.loop-i.i c.index-images-i.result c.loop-i-test.true c.index-images-i.is c.requires.images
 
 pub powers_of-requires-clause-small : goal.powers_of-requires-clause-small
 powers_of-requires-clause-small g c =
     let S = over g.F.Field.field g.O.TermOrder.order c.args.space.now in
     let exps = g.M.Monomial.exps in
     c.greatest_exponent-last.ensures.least (peak (entries exps c.index-images-i.result)) g.M.Monomial.MAX_EXP
-    (row_small S exps g.M.Monomial.MAX_EXP c.loop-i.i c.args.images.now c.index-images-i.result (entries exps c.args.f.now) c.loop-i-test.true c.index-images-i.is c.requires.small)
+    (row_small S exps g.M.Monomial.MAX_EXP c.loop-i.i c.args.images.now c.index-images-i.result (entries exps c.args.f.now) c.loop-i-test.true c.index-images-i.is c.requires.room)
 
 pub loop-i-preserved : goal.loop-i-preserved
 loop-i-preserved g c =

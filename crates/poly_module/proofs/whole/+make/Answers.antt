@@ -3,15 +3,16 @@ use Rattle.alg_core.specs.Fields.{Has}
 use Rattle.alg_core.specs.Spaces.{over, IsPlace}
 use Rattle.poly_module.proofs.Halves.{front_given, back_given, halves}
 use Rattle.poly_module.proofs.EntryLists.{given_at}
+use Rattle.poly_module.proofs.SpaceVectorLaws.{vector_given}
 use Rattle.poly_module.proofs.whole.+make.Goals as goal
 
-pub one-requires-clause-has : goal.one-requires-clause-has
-one-requires-clause-has g t c =
+pub single-requires-clause-value : goal.single-requires-clause-value
+single-requires-clause-value g t c =
     let S = over g.F.Field.field g.O.TermOrder.order c.args.space.now in
     (given_at S g.M.Monomial.exps (λ e. Has S.field e.1 × IsPlace S e.0) c.args.terms.now 0 c.index-terms-0.result (omega arith) c.index-terms-0.is c.requires.given).0
 
-pub one-requires-clause-place : goal.one-requires-clause-place
-one-requires-clause-place g t c =
+pub single-requires-clause-place : goal.single-requires-clause-place
+single-requires-clause-place g t c =
     let S = over g.F.Field.field g.O.TermOrder.order c.args.space.now in
     (given_at S g.M.Monomial.exps (λ e. Has S.field e.1 × IsPlace S e.0) c.args.terms.now 0 c.index-terms-0.result (omega arith) c.index-terms-0.is c.requires.given).1
 
@@ -25,7 +26,10 @@ make-requires-2 g t c κs within =
     let S = over g.F.Field.field g.O.TermOrder.order c.args.space.now in
     (omega arith, (search rules, (search rules, (search rules, (search rules, back_given S g.M.Monomial.exps (length c.args.terms.now / 2) c.args.terms.now _ c.split_at.ensures.back c.requires.given)))))
 
-pub returns-clause-sum : goal.returns-clause-sum
-returns-clause-sum g t c =
+pub returns : goal.returns
+returns g t c =
     let S = over g.F.Field.field g.O.TermOrder.order c.args.space.now in
-    halves S g.M.Monomial.exps (length c.args.terms.now / 2) c.args.terms.now _ _ _ _ _ c.split_at.ensures.front c.split_at.ensures.back c.in_ok-left.ensures.sum c.in_ok-right.ensures.sum c.in_ok-sum.ensures.sum
+    record {
+      sum = vector_given S g.M.Monomial.exps _ _ c.in_ok-sum.ensures.sum.fits
+          (halves S g.M.Monomial.exps (length c.args.terms.now / 2) c.args.terms.now _ _ _ _ _ c.split_at.ensures.front c.split_at.ensures.back c.in_ok-left.ensures.sum.is c.in_ok-right.ensures.sum.is c.in_ok-sum.ensures.sum.is);
+    }
