@@ -17,24 +17,7 @@ use Rattle.lin_algebra.specs.Matrices.{entries as cells_of}
 use Rattle.lin_algebra.proofs.CutLaws.{cut_at}
 use Rattle.matrix_group.specs.Actions.{IsSquare, linear_form}
 
--- the exponents of a variable
-pub mono_set : (n i : ℕ) → i < n → mono (slice_set (replicate n 0) i 1) ≡ variable i
-unfolding variable after_zeros
-mono_set n i h = mono_ext _ (after_zeros i (1 ∷ [])) (at n i h)
-  where
-    zeros : (n j : ℕ) → exponent (replicate n 0) j ≡ 0
-    zeros zero j = refl
-    zeros (suc n) zero = refl
-    zeros (suc n) (suc j) = zeros n j
-
-    at : (n i : ℕ) → i < n → (j : ℕ) → exponent (slice_set (replicate n 0) i 1) j ≡ exponent (after_zeros i (1 ∷ [])) j
-    at zero i h j = absurd (omega arith)
-    at (suc n) zero h zero = refl
-    at (suc n) zero h (suc j) = zeros n j
-    at (suc n) (suc i) h zero = refl
-    at (suc n) (suc i) h (suc j) = at n i (omega arith) j
-
--- and its key
+-- the key of a variable
 pub key_variable : (a b : List ℕ) (i : ℕ) → a ≡ b → mono b ≡ variable i → key (0, a) ≡ (0, variable i)
 unfolding key
 key_variable a b i e is = ap (λ m. (0, m)) (ap mono e ∙ is)
@@ -72,11 +55,6 @@ module _ {E M : Type 0} (k : FieldOn E) (exps : M → List ℕ) where
   vec_variable : (t : Term E M) (i : ℕ) → key (entry exps t).0 ≡ (0, variable i) → vec k (entries exps (t ∷ [])) ≡ (vectors k).◌·◌ (scalar k t.coef) (variable_vector k i)
   unfolding variable_vector single_vector
   vec_variable t i e = vec_single k (entry exps t) ∙ ap (λ s. (vectors k).◌·◌ (scalar k t.coef) (single (scalars k) key_same s)) e
-
-  -- the variable itself
-  pub one_variable : (v terms : Terms) (t : Term E M) (i : ℕ) → vec k (entries exps v) ≡ vec k (entries exps terms) → terms ≡ t ∷ [] → t.coef ≡ k.one → key (entry exps t).0 ≡ (0, variable i) → vec k (entries exps v) ≡ variable_vector k i
-  one_variable v terms t i made one unit e =
-      made ∙ ap (λ l. vec k (entries exps l)) one ∙ vec_variable t i e ∙ ap (λ c. (vectors k).◌·◌ c (variable_vector k i)) (ap (scalar k) unit ∙ scalar_one k) ∙ (vectors k).one_act _
 
   -- the first terms of a linear form
   pub form_start : (terms : Terms) (c : ℕ → Scalar k) → terms ≡ [] → vec k (entries exps terms) ≡ linear_form k 0 c

@@ -13,7 +13,8 @@ use Rattle.poly_module.specs.Polynomials.{vector_ring}
 use Rattle.poly_module.specs.Parts.{Supp, supp_single}
 use Rattle.poly_module.specs.Substitutions.{image as image_of, variable_vector, substitute}
 use Rattle.poly_module.specs.GreatestExponents.{total, greatest, peak, highest}
-use Rattle.poly_module.specs.PowerTables.{AllAt, IsOf, values}
+use Rattle.poly_module.specs.PowerTables.{AllAt}
+use Rattle.poly_module.specs.SpaceVectors.{vectors_of, ArePolys, IsPolyOf}
 use Rattle.poly_module.proofs.ExponentBounds.{Bounded, greatest_mono, fits_keys}
 use Rattle.poly_module.proofs.Factors.{fits_terms}
 use Rattle.poly_module.proofs.FittingKeys.{vec_in_variables}
@@ -65,7 +66,7 @@ module _ {E : Type 0} (S : SpaceOver E) (m : Matrix E) where
 
   -- the terms of the image of each variable
   abbrev pub AreImages : List Terms → Type 0
-  AreImages = AllAt (λ i p. IsOf S (λ a. a) (image S.field m.rows (cells_of S.field m) i) p)
+  AreImages = AllAt (λ i p. IsPolyOf S (λ a. a) (image S.field m.rows (cells_of S.field m) i) p)
 
   pub images_start : (images : List Terms) → images ≡ [] → AreImages images
   images_start images none = subst AreImages (sym none) (λ i d w. absurd (omega arith))
@@ -73,19 +74,15 @@ module _ {E : Type 0} (S : SpaceOver E) (m : Matrix E) where
   pub images_count : (images new : List Terms) (p : Terms) (i : ℕ) → new ≡ images ++ p ∷ [] → length images ≡ i → length new ≡ i + 1
   images_count images new p i more count = let both = length-append images (p ∷ []) in let same : length new ≡ length (images ++ p ∷ []) = ap length more in omega arith
 
-  pub images_step : (images new : List Terms) (p : Terms) (i : ℕ) → length images ≡ i → new ≡ images ++ p ∷ [] → AreImages images → IsOf S (λ a. a) (image S.field m.rows (cells_of S.field m) i) p → AreImages new
+  pub images_step : (images new : List Terms) (p : Terms) (i : ℕ) → length images ≡ i → new ≡ images ++ p ∷ [] → AreImages images → IsPolyOf S (λ a. a) (image S.field m.rows (cells_of S.field m) i) p → AreImages new
   images_step images new p i count more was is = subst AreImages (sym more)
-      (all_at_push (λ i p. IsOf S (λ a. a) (image S.field m.rows (cells_of S.field m) i) p) images p was (subst (λ j. IsOf S (λ a. a) (image S.field m.rows (cells_of S.field m) j) p) (sym count) is))
+      (all_at_push (λ i p. IsPolyOf S (λ a. a) (image S.field m.rows (cells_of S.field m) i) p) images p was (subst (λ j. IsPolyOf S (λ a. a) (image S.field m.rows (cells_of S.field m) j) p) (sym count) is))
 
-  pub images_fit : (images : List Terms) → AreImages images → All (λ p. Fits S (listed p)) images
-  images_fit images are i d w = (are i d w).0
+  pub images_polys : (images : List Terms) → AreImages images → ArePolys S (λ a. a) images
+  images_polys images are i d w = let is = are i d w in record { fits = is.fits; position = is.position }
 
   image_keys : (Q : Key → Type 0) → ((i : ℕ) → Supp S.field Q (image S.field m.rows (cells_of S.field m) i)) → (images : List Terms) → AreImages images → All (λ p. All (λ e. Q (key e.0)) (listed p)) images
-  image_keys Q h images are i d w = let is = are i d w in fits_keys S Q (listed (get_or images i d)) is.0 (subst (Supp S.field Q) (sym is.1) (h i))
-
-  pub images_polynomials : (images : List Terms) → AreImages images → All (λ p. All (λ e. e.0.0 ≡ 0) (listed p)) images
-  unfolding key
-  images_polynomials = image_keys (λ t. t.0 ≡ 0) (image_polynomial S.field m.rows (cells_of S.field m))
+  image_keys Q h images are i d w = let is = are i d w in fits_keys S Q (listed (get_or images i d)) is.fits (subst (Supp S.field Q) (sym is.is) (h i))
 
   -- their exponents are at most 1
   image_bounded : (i : ℕ) → Supp S.field (Bounded 1) (image S.field m.rows (cells_of S.field m) i)
@@ -115,12 +112,12 @@ module _ {E : Type 0} (S : SpaceOver E) (m : Matrix E) where
   images_small cap es images are few i d w = small_product (total (get_or es i d).0.1) (highest (map (entries (λ a. a)) images)) cap (few i d w) (highest_bounded images (image_keys (Bounded 1) image_bounded images are))
 
   -- the value at the images is the image
-  values_image : (images : List Terms) (i : ℕ) → i < length images → (d : Terms) → image_of (vector_ring S.field) (values S (λ a. a) images) i ≡ vec S.field (listed (get_or images i d))
+  values_image : (images : List Terms) (i : ℕ) → i < length images → (d : Terms) → image_of (vector_ring S.field) (vectors_of S (λ a. a) images) i ≡ vec S.field (listed (get_or images i d))
   values_image [] i h d = absurd (omega arith)
   values_image (p ∷ images) zero h d = refl
   values_image (p ∷ images) (suc i) h d = values_image images i (omega arith) d
 
   pub value_acted : (images : List Terms) (f v : Terms) → AreImages images → length images ≡ length S.weights → Fits S (listed f)
-      → vec S.field (listed v) ≡ substitute S.field (values S (λ a. a) images) (vec S.field (listed f)) → vec S.field (listed v) ≡ act_by S.field m (vec S.field (listed f))
-  value_acted images f v are count fits is = is ∙ sym (act_substitute S.field m.rows (cells_of S.field m) (length S.weights) (values S (λ a. a) images)
-      (λ i h. let w : i < length images = omega arith in values_image images i w [] ∙ (are i [] w).1) (vec S.field (listed f)) (vec_in_variables S (listed f) fits))
+      → vec S.field (listed v) ≡ substitute S.field (vectors_of S (λ a. a) images) (vec S.field (listed f)) → vec S.field (listed v) ≡ act_by S.field m (vec S.field (listed f))
+  value_acted images f v are count fits is = is ∙ sym (act_substitute S.field m.rows (cells_of S.field m) (length S.weights) (vectors_of S (λ a. a) images)
+      (λ i h. let w : i < length images = omega arith in values_image images i w [] ∙ (are i [] w).is) (vec S.field (listed f)) (vec_in_variables S (listed f) fits))

@@ -6,10 +6,12 @@
 --   act k n a u            u with its image put for each variable
 --   act_by k m u           the same for a square matrix of the program
 --   IsSquare k n m         m is an n by n matrix over the field
+--   ActsOn S m             m is a square matrix over the field of the space S, with a row for as many of its first variables
 --   Invariant k gens u     u is its own image under each of the matrices
-use Rattle.std.specs.Prelude.{◌≡◌, ℕ, zero, suc, List, All, nat_lt, if◌then◌else◌}
+use Rattle.std.specs.Prelude.{◌≡◌, ◌≤◌, ℕ, zero, suc, List, All, length, nat_lt, if◌then◌else◌}
 use Rattle.alg_core.specs.Fields.{FieldOn, Scalar}
 use Rattle.alg_core.specs.Vectors.{Vect, vectors, plus, zero_vector}
+use Rattle.alg_core.specs.Spaces.{SpaceOver}
 use Rattle.poly_module.specs.Substitutions.{variable_vector}
 use Rattle.lin_algebra.specs.declared.matrix.Matrix.{Matrix}
 use Rattle.lin_algebra.specs.Matrices.{IsMatrix, entries}
@@ -42,3 +44,8 @@ module _ {E : Type 0} (k : FieldOn E) where
   -- fixed by each matrix
   abbrev pub Invariant : List (Matrix E) → Vect k → Type 0
   Invariant gens u = All (λ m. act_by m u ≡ u) gens
+
+-- it acts on the polynomials of a space
+pub record ActsOn {E : Type 0} (S : SpaceOver E) (m : Matrix E) : Type 0 where
+  pub square : IsSquare S.field m.rows m
+  pub within : m.rows ≤ length S.weights

@@ -1,18 +1,16 @@
-ghost use Rattle.std.specs.Prelude.{◌≡◌, ◌≤◌, ◌<◌, IfOk, All, length, replicate};
-ghost use Rattle.alg_core.specs.Fields.{Has};
+ghost use Rattle.std.specs.Prelude.{◌≡◌, ◌<◌, IfOk, length};
 ghost use Rattle.alg_core.specs.Keys.{key};
 ghost use Rattle.alg_core.specs.Monomials.{mono};
-ghost use Rattle.alg_core.specs.Spaces.{over, entry, entries, Fits, IsPlace};
-ghost use Rattle.alg_core.specs.Vectors.{vec};
-ghost use Rattle.poly_module.specs.GreatestExponents.{total};
+ghost use Rattle.alg_core.specs.Spaces.{over, entry, IsPlace};
 ghost use Rattle.poly_module.specs.MonomialVariables.{variable};
-ghost use Rattle.poly_module.specs.Substitutions.{variable_vector};
+ghost use Rattle.poly_module.specs.SpaceVectors.{vector_of, IsPoly, IsPolyOf, HasPolynomials};
+ghost use Rattle.poly_module.specs.Sizes.{IsLow};
 ghost use Rattle.lin_algebra.specs.Matrices.{entries as cells_of};
-ghost use Rattle.matrix_group.specs.Actions.{IsSquare, linear_form, image, act_by};
+ghost use Rattle.matrix_group.specs.Actions.{linear_form, image, act_by, ActsOn};
 
 use alg_core::{Field, Memory, ModTerm, Mono, Space, Term, TermOrder};
 use lin_algebra::Matrix;
-use poly_module::{Poly, make, substitute};
+use poly_module::{Poly, make, substitute, variable};
 use std::alloc::Global;
 
 /// The exponents of variable i, of n variables.
@@ -33,7 +31,7 @@ fn variable_term<F: Field, O: TermOrder>(
     coef: F::Elem,
     i: usize,
 ) -> Result<Term<F::Elem, Mono>, Memory>
-    requires constants { IsPlace (over F.field O.order space.now) (0, replicate (length space.now.grading.weights.items) 0) }
+    requires polynomials { HasPolynomials (over F.field O.order space.now) }
     requires within { i < length space.now.grading.weights.items }
     ensures coef { IfOk result (λ t. t.coef ≡ coef) }
     ensures place { IfOk result (λ t. IsPlace (over F.field O.order space.now) (entry (λ m. m) t).0) }
@@ -45,24 +43,6 @@ fn variable_term<F: Field, O: TermOrder>(
     Ok(Term { coef, at })
 }
 
-/// Variable i as a polynomial.
-fn single_variable<F: Field, O: TermOrder>(
-    alloc: Global,
-    space: &Space<F, O>,
-    i: usize,
-) -> Result<Poly<F::Elem>, Memory>
-    requires constants { IsPlace (over F.field O.order space.now) (0, replicate (length space.now.grading.weights.items) 0) }
-    requires within { i < length space.now.grading.weights.items }
-    ensures fits { IfOk result (λ v. Fits (over F.field O.order space.now) (entries (λ m. m) v)) }
-    ensures variable { let k = F.field space.now.field in IfOk result (λ v. vec k (entries (λ m. m) v) ≡ variable_vector k i) }
-{
-    let term = variable_term(alloc, space, space.field.one(), i)?;
-    let mut terms = Vec::new(alloc);
-    terms.push(term)?;
-    let single = make(alloc, space, terms.as_slice())?;
-    Ok(single)
-}
-
 /// The linear form with the coefficients in row i, from 0: what is put for variable i.
 pub fn row_form<F: Field, O: TermOrder>(
     alloc: Global,
@@ -70,12 +50,11 @@ pub fn row_form<F: Field, O: TermOrder>(
     m: &Matrix<F::Elem>,
     i: usize,
 ) -> Result<Poly<F::Elem>, Memory>
-    requires square { IsSquare (F.field space.now.field) m.now.rows m.now }
-    requires within { m.now.rows ≤ length space.now.grading.weights.items }
-    requires constants { IsPlace (over F.field O.order space.now) (0, replicate (length space.now.grading.weights.items) 0) }
+    requires polynomials { HasPolynomials (over F.field O.order space.now) }
+    requires matrix { ActsOn (over F.field O.order space.now) m.now }
     requires row { i < m.now.rows }
-    ensures fits { IfOk result (λ v. Fits (over F.field O.order space.now) (entries (λ m. m) v)) }
-    ensures form { let k = F.field space.now.field in IfOk result (λ v. vec k (entries (λ m. m) v) ≡ linear_form k m.now.rows (cells_of k m.now i)) }
+    ensures form { let S = over F.field O.order space.now in
+        IfOk result (IsPolyOf S (λ a. a) (linear_form S.field m.now.rows (cells_of S.field m.now i))) }
 {
     let n = m.rows as usize;
     let mut terms = Vec::new(alloc);
@@ -94,18 +73,17 @@ fn image_of<F: Field, O: TermOrder>(
     m: &Matrix<F::Elem>,
     i: usize,
 ) -> Result<Poly<F::Elem>, Memory>
-    requires square { IsSquare (F.field space.now.field) m.now.rows m.now }
-    requires within { m.now.rows ≤ length space.now.grading.weights.items }
-    requires constants { IsPlace (over F.field O.order space.now) (0, replicate (length space.now.grading.weights.items) 0) }
+    requires polynomials { HasPolynomials (over F.field O.order space.now) }
+    requires matrix { ActsOn (over F.field O.order space.now) m.now }
     requires variable { i < length space.now.grading.weights.items }
-    ensures fits { IfOk result (λ v. Fits (over F.field O.order space.now) (entries (λ m. m) v)) }
-    ensures image { let k = F.field space.now.field in IfOk result (λ v. vec k (entries (λ m. m) v) ≡ image k m.now.rows (cells_of k m.now) i) }
+    ensures image { let S = over F.field O.order space.now in
+        IfOk result (IsPolyOf S (λ a. a) (image S.field m.now.rows (cells_of S.field m.now) i)) }
 {
     if (i as u64) < m.rows {
         let form = row_form(alloc, space, m, i)?;
         Ok(form)
     } else {
-        let variable = single_variable(alloc, space, i)?;
+        let variable = variable(alloc, space, i)?;
         Ok(variable)
     }
 }
@@ -118,15 +96,12 @@ pub fn act<F: Field, O: TermOrder>(
     f: &Poly<F::Elem>,
     m: &Matrix<F::Elem>,
 ) -> Result<Poly<F::Elem>, Memory>
-    requires fits { Fits (over F.field O.order space.now) (entries (λ m. m) f.now) }
-    requires polynomial { All (λ e. e.0.0 ≡ 0) (entries (λ m. m) f.now) }
-    requires square { IsSquare (F.field space.now.field) m.now.rows m.now }
-    requires within { m.now.rows ≤ length space.now.grading.weights.items }
-    requires constants { IsPlace (over F.field O.order space.now) (0, replicate (length space.now.grading.weights.items) 0) }
-    requires small { All (λ e. total e.0.1 ≤ 4294967295) (entries (λ m. m) f.now) }
-    ensures fits { IfOk result (λ v. Fits (over F.field O.order space.now) (entries (λ m. m) v)) }
-    ensures polynomial { IfOk result (λ v. All (λ e. e.0.0 ≡ 0) (entries (λ m. m) v)) }
-    ensures action { let k = F.field space.now.field in IfOk result (λ v. vec k (entries (λ m. m) v) ≡ act_by k m.now (vec k (entries (λ m. m) f.now))) }
+    requires polynomials { HasPolynomials (over F.field O.order space.now) }
+    requires polynomial { IsPoly (over F.field O.order space.now) (λ a. a) f.now }
+    requires matrix { ActsOn (over F.field O.order space.now) m.now }
+    requires low { IsLow 4294967295 (λ a. a) f.now }
+    ensures image { let S = over F.field O.order space.now in
+        IfOk result (IsPolyOf S (λ a. a) (act_by S.field m.now (vector_of S (λ a. a) f.now))) }
 {
     let mut images = Vec::new(alloc);
     for i in 0..space.grading.weights.len() {

@@ -1,13 +1,13 @@
-ghost use Rattle.std.specs.Prelude.{◌≡◌, ◌↔◌, ◌≤◌, IfOk, IsTrue, All, length, replicate};
-ghost use Rattle.alg_core.specs.Spaces.{over, entries, Fits, IsPlace};
-ghost use Rattle.alg_core.specs.Vectors.{vec};
-ghost use Rattle.poly_module.specs.GreatestExponents.{total};
-ghost use Rattle.matrix_group.specs.Actions.{IsSquare, act_by, Invariant};
+ghost use Rattle.std.specs.Prelude.{◌≡◌, ◌↔◌, IfOk, IsTrue, All};
+ghost use Rattle.alg_core.specs.Spaces.{over};
+ghost use Rattle.poly_module.specs.SpaceVectors.{vector_of, IsPoly, HasPolynomials};
+ghost use Rattle.poly_module.specs.Sizes.{IsLow};
+ghost use Rattle.matrix_group.specs.Actions.{act_by, Invariant, ActsOn};
 
 use crate::action::act;
 use alg_core::{Field, Memory, Space, TermOrder};
 use lin_algebra::Matrix;
-use poly_module::{Poly, sub};
+use poly_module::{Poly, are_equal};
 use std::alloc::Global;
 
 /// Whether f is its own image.
@@ -17,17 +17,15 @@ fn is_fixed<F: Field, O: TermOrder>(
     f: &Poly<F::Elem>,
     m: &Matrix<F::Elem>,
 ) -> Result<bool, Memory>
-    requires fits { Fits (over F.field O.order space.now) (entries (λ m. m) f.now) }
-    requires polynomial { All (λ e. e.0.0 ≡ 0) (entries (λ m. m) f.now) }
-    requires square { IsSquare (F.field space.now.field) m.now.rows m.now }
-    requires within { m.now.rows ≤ length space.now.grading.weights.items }
-    requires constants { IsPlace (over F.field O.order space.now) (0, replicate (length space.now.grading.weights.items) 0) }
-    requires small { All (λ e. total e.0.1 ≤ 4294967295) (entries (λ m. m) f.now) }
-    ensures exact { let k = F.field space.now.field in IfOk result (λ b. IsTrue b ↔ (act_by k m.now (vec k (entries (λ m. m) f.now)) ≡ vec k (entries (λ m. m) f.now))) }
+    requires polynomials { HasPolynomials (over F.field O.order space.now) }
+    requires polynomial { IsPoly (over F.field O.order space.now) (λ a. a) f.now }
+    requires matrix { ActsOn (over F.field O.order space.now) m.now }
+    requires low { IsLow 4294967295 (λ a. a) f.now }
+    ensures exact { let S = over F.field O.order space.now in let u = vector_of S (λ a. a) f.now in
+        IfOk result (λ b. IsTrue b ↔ (act_by S.field m.now u ≡ u)) }
 {
     let image = act(alloc, space, f, m)?;
-    let difference = sub(alloc, space, &image, f)?;
-    Ok(difference.terms().len() == 0)
+    Ok(are_equal(space, &image, f))
 }
 
 /// Whether f is its own image under each of the matrices.
@@ -37,13 +35,12 @@ pub fn is_invariant<F: Field, O: TermOrder>(
     f: &Poly<F::Elem>,
     gens: &[Matrix<F::Elem>],
 ) -> Result<bool, Memory>
-    requires fits { Fits (over F.field O.order space.now) (entries (λ m. m) f.now) }
-    requires polynomial { All (λ e. e.0.0 ≡ 0) (entries (λ m. m) f.now) }
-    requires square { let k = F.field space.now.field in All (λ m. IsSquare k m.rows m) gens.now }
-    requires within { All (λ m. m.rows ≤ length space.now.grading.weights.items) gens.now }
-    requires constants { IsPlace (over F.field O.order space.now) (0, replicate (length space.now.grading.weights.items) 0) }
-    requires small { All (λ e. total e.0.1 ≤ 4294967295) (entries (λ m. m) f.now) }
-    ensures exact { let k = F.field space.now.field in IfOk result (λ b. IsTrue b ↔ Invariant k gens.now (vec k (entries (λ m. m) f.now))) }
+    requires polynomials { HasPolynomials (over F.field O.order space.now) }
+    requires polynomial { IsPoly (over F.field O.order space.now) (λ a. a) f.now }
+    requires matrices { All (ActsOn (over F.field O.order space.now)) gens.now }
+    requires low { IsLow 4294967295 (λ a. a) f.now }
+    ensures exact { let S = over F.field O.order space.now in
+        IfOk result (λ b. IsTrue b ↔ Invariant S.field gens.now (vector_of S (λ a. a) f.now)) }
 {
     for i in 0..gens.len() {
         let m = &gens[i];

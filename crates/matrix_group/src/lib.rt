@@ -14,6 +14,3 @@ pub use fault::GroupFault;
 pub use group::Group;
 pub use invariance::is_invariant;
 pub use laws::{actions, invariants, orders};
-
-#[cfg(test)]
-mod tests;

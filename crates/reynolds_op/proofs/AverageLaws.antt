@@ -11,10 +11,10 @@ use Rattle.poly_module.specs.Parts.{IsPolynomial, InVariables, supp_zero, supp_p
 use Rattle.poly_module.specs.Forms.{IsForm}
 use Rattle.lin_algebra.specs.declared.matrix.Matrix.{Matrix}
 use Rattle.matrix_group.specs.Actions.{act, IsSquare, Invariant}
-use Rattle.matrix_group.specs.Groups.{cells_of, entry, times, IsGroup, AreElements, AreApart}
+use Rattle.matrix_group.specs.Groups.{size, cells_of, entry, times, IsGroup, AreElements, AreApart}
 use Rattle.matrix_group.proofs.ActionLaws.{act_plus, act_zero, act_scale, act_product, act_polynomial, act_in_variables, act_form}
 use Rattle.matrix_group.proofs.GroupLaws.{elements_generators, matrices_cells}
-use Rattle.reynolds_op.specs.Averages.{ones, sum_of, sum_over, average, reynolds, Averaging, IsAveraging}
+use Rattle.reynolds_op.specs.Averages.{ones, sum_of, sum_over, average, reynolds, Averaging, IsAveraging, IsAverage}
 use Rattle.reynolds_op.proofs.OnesLaws.{has_ones}
 use Rattle.reynolds_op.proofs.Sums.{sum_same, sum_plus, sum_through, sum_constant, sum_members, sum_map}
 use Rattle.matrix_group.proofs.GroupActions.{act_times, fixed_by_cells, fixed_by_matrices, fixed_by_product, turned_apart, turned_in, in_turned}
@@ -138,3 +138,9 @@ module _ {E : Type 0} (k : FieldOn E) where
         factors w =
             ap (scale k R.factor) (sym (divided S s w)) ∙ scale_commutes R.factor S.factor _
             ∙ ap (scale k S.factor) (ap (scale k R.factor) (sym (sum_members k (λ g. w) (cells_of R.elements) (cells_of S.elements) r.elements.group.apart s.elements.group.apart (λ g. (same g).0) (λ g. (same g).1))) ∙ divided R r w)
+
+  -- a polynomial has one average over the group of given generators
+  pub average_unique : (gens : List (Matrix E)) (f h h' : Vect k) → IsAverage k gens f h → IsAverage k gens f h' → h ≡ h'
+  average_unique gens f h h' a b =
+      sym a.is ∙ reynolds_order (size gens) a.averaging b.averaging a.group b.group
+      (λ g. (λ c. b.generated.all g (a.generated.products g c), λ c. a.generated.all g (b.generated.products g c))) f ∙ b.is

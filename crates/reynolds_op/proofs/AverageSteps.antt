@@ -1,5 +1,5 @@
 -- Steps of the computation of an average.
-use Rattle.std.proofs.Common.{◌≡◌, ℕ, ◌+◌, ◌<◌, List, [], ◌∷◌, ◌++◌, length, take, get_or, All, sym, ap, ap₂, ◌∙◌, subst}
+use Rattle.std.proofs.Common.{◌≡◌, ℕ, ◌+◌, ◌<◌, ◌≤◌, List, [], ◌∷◌, ◌++◌, length, take, get_or, All, refl, sym, ap, ap₂, ◌∙◌, subst}
 use Rattle.std.proofs.lemmas.List.{take_more, map-append}
 use Rattle.alg_core.specs.Fields.{FieldOn}
 use Rattle.alg_core.specs.Keys.{key}
@@ -9,18 +9,14 @@ use Rattle.alg_core.proofs.VectorLaws.{plus_zero, vec_nothing}
 use Rattle.poly_module.proofs.ExponentBounds.{fits_keys}
 use Rattle.poly_module.specs.Parts.{IsPolynomial}
 use Rattle.lin_algebra.specs.declared.matrix.Matrix.{Matrix}
-use Rattle.matrix_group.specs.Actions.{IsSquare, act_by}
-use Rattle.matrix_group.specs.Groups.{cells_of}
-use Rattle.reynolds_op.specs.Averages.{sum_over}
+use Rattle.matrix_group.specs.Actions.{IsSquare, ActsOn, act_by}
+use Rattle.matrix_group.specs.Groups.{size, cells_of}
+use Rattle.reynolds_op.specs.Averages.{Averaging, sum_over, ActTogether, AveragesOn}
 use Rattle.reynolds_op.proofs.Sums.{sum_append}
 use Rattle.matrix_group.proofs.GroupActions.{act_cells}
 use Rattle.reynolds_op.proofs.AverageLaws.{average_polynomial}
 
 module _ {E : Type 0} (k : FieldOn E) where
-  -- the sum of no terms
-  pub sum_start : (es : List (Entry E)) (v : Vect k) → es ≡ [] → v ≡ vec k es → v ≡ zero_vector k
-  sum_start es v none is = is ∙ ap (vec k) none ∙ vec_nothing k
-
   -- one image more
   pub sum_step : (n i : ℕ) (ms : List (Matrix E)) (m : Matrix E) (u sum image new : Vect k) → i < length ms → m ≡ get_or ms i m → All (IsSquare k n) ms
       → sum ≡ sum_over k n (cells_of (take i ms)) u → image ≡ act_by k m u → new ≡ plus k sum image → new ≡ sum_over k n (cells_of (take (i + 1) ms)) u
@@ -30,8 +26,15 @@ module _ {E : Type 0} (k : FieldOn E) where
       is ∙ ap₂ (plus k) was (acted ∙ act_cells k n m own u ∙ sym (plus_zero k _)) ∙ sym (sum_append k _ (cells_of (take i ms)) (m.cells.items ∷ []))
       ∙ ap (λ l. sum_over k n l u) (sym (ap cells_of more ∙ map-append (λ x. x.cells.items) (take i ms) (m ∷ [])))
 
--- an average is a polynomial
-pub positions_of_average : {E : Type 0} (S : SpaceOver E) (n : ℕ) (c : E) (gs : List (List E)) (u sum : Vect S.field) (es : List (Entry E)) → Fits S es → vec S.field es ≡ scale S.field c sum → sum ≡ sum_over S.field n gs u → All (λ e. e.0.0 ≡ 0) es
-unfolding key
-positions_of_average S n c gs u sum es fits is was =
-    fits_keys S (λ t. t.0 ≡ 0) es fits (subst (IsPolynomial S.field) (sym (is ∙ ap (scale S.field c) was)) (average_polynomial S.field n c gs u))
+module _ {E : Type 0} (S : SpaceOver E) where
+  -- each of the matrices acts
+  pub acts_at : (ms : List (Matrix E)) (i : ℕ) (m : Matrix E) → i < length ms → m ≡ get_or ms i m → ActTogether S ms → ActsOn S m
+  acts_at ms i m inside read h =
+      let own : IsSquare S.field (size ms) m = subst (IsSquare S.field (size ms)) (sym read) (h.square i m inside) in
+      record {
+        square = record { matrix = own.matrix; rows = refl; cols = own.cols ∙ sym own.rows };
+        within = subst (λ n. n ≤ length S.weights) (sym own.rows) h.within;
+      }
+
+  pub together : (R : Averaging E) → AveragesOn S R → ActTogether S R.elements
+  together R h = record { square = h.averaging.elements.square; within = h.within }

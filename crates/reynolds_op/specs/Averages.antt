@@ -10,12 +10,17 @@
 --   IsMatrixGroup k n ms   ms are n by n matrices over the field, and a group
 --   IsAveraging k n R      the elements of R are such a group, and its factor is the inverse of the sum of as many ones as
 --                          there are elements
-use Rattle.std.specs.Prelude.{◌≡◌, ℕ, List, [], ◌∷◌, All, length}
+--   IsAverage k gens f h   h is the average of f over the group that the matrices gens generate
+--   ActTogether S ms       ms are square matrices of one size over the field of the space S, with a row for as many of its
+--                          first variables
+--   AveragesOn S R         the elements of such a group act so, and R averages over it
+use Rattle.std.specs.Prelude.{◌≡◌, ◌≤◌, ℕ, List, [], ◌∷◌, All, length}
 use Rattle.alg_core.specs.Fields.{FieldOn, Has, sum_of_ones}
 use Rattle.alg_core.specs.Vectors.{Vect, plus, zero_vector, scale}
+use Rattle.alg_core.specs.Spaces.{SpaceOver}
 use Rattle.lin_algebra.specs.declared.matrix.Matrix.{Matrix}
 use Rattle.matrix_group.specs.Actions.{act, IsSquare}
-use Rattle.matrix_group.specs.Groups.{cells_of, entry, IsGroup}
+use Rattle.matrix_group.specs.Groups.{size, cells_of, entry, AreElements, IsGroup}
 
 -- elements of a group of matrices, and a factor
 pub record Averaging (E : Type 0) : Type 0 where
@@ -50,3 +55,21 @@ module _ {E : Type 0} (k : FieldOn E) where
     pub elements : IsMatrixGroup n R.elements
     pub has : Has k R.factor
     pub inverse : k.mul R.factor (ones (length R.elements)) ≡ k.one
+
+  -- the elements are the finite products of the matrices
+  pub record IsAverage (gens : List (Matrix E)) (f h : Vect k) : Type 0 where
+    pub averaging : Averaging E
+    pub group : IsAveraging (size gens) averaging
+    pub generated : AreElements k (size gens) (cells_of gens) (cells_of averaging.elements)
+    pub is : reynolds (size gens) averaging f ≡ h
+
+module _ {E : Type 0} (S : SpaceOver E) where
+  -- matrices of one size that act on the polynomials of a space
+  pub record ActTogether (ms : List (Matrix E)) : Type 0 where
+    pub square : All (IsSquare S.field (size ms)) ms
+    pub within : size ms ≤ length S.weights
+
+  -- a group of such matrices and the inverse of its order
+  pub record AveragesOn (R : Averaging E) : Type 0 where
+    pub averaging : IsAveraging S.field (size R.elements) R
+    pub within : size R.elements ≤ length S.weights

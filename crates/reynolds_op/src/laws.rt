@@ -6,7 +6,7 @@ ghost use Rattle.poly_module.specs.Forms.{IsForm};
 ghost use Rattle.lin_algebra.specs.declared.matrix.Matrix.{Matrix};
 ghost use Rattle.matrix_group.specs.Actions.{IsSquare, Invariant};
 ghost use Rattle.matrix_group.specs.Groups.{cells_of, AreElements};
-ghost use Rattle.reynolds_op.specs.Averages.{Averaging, reynolds, IsAveraging};
+ghost use Rattle.reynolds_op.specs.Averages.{Averaging, reynolds, IsAveraging, IsAverage};
 
 use alg_core::Field;
 
@@ -40,7 +40,8 @@ pub fn averages<F: Field>(_field: &F)
 {}
 
 /// By generators of the group: R(u) is fixed by each of them, a polynomial u is fixed by each exactly
-/// where R(u) = u, and factors that each of them fixes go out of R.
+/// where R(u) = u, and factors that each of them fixes go out of R. A polynomial has one average over
+/// the group that given matrices generate.
 pub fn generated_averages<F: Field>(_field: &F)
     ensures invariant { let k = F.field _field.now in
         (n : ℕ) (R : Averaging F.Elem) → IsAveraging k n R
@@ -55,4 +56,6 @@ pub fn generated_averages<F: Field>(_field: &F)
         → (gens : List (Matrix F.Elem)) → All (IsSquare k n) gens → AreElements k n (cells_of gens) (cells_of R.elements)
         → (a u : Vect k) → IsPolynomial k a → Invariant k gens a
         → reynolds k n R (product k a u) ≡ product k a (reynolds k n R u) }
+    ensures unique { let k = F.field _field.now in (gens : List (Matrix F.Elem)) (f h g : Vect k)
+        → IsAverage k gens f h → IsAverage k gens f g → h ≡ g }
 {}

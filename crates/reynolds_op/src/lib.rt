@@ -3,8 +3,6 @@
 
 mod laws;
 mod reynolds;
-#[cfg(test)]
-mod tests;
 
 pub use laws::{averages, generated_averages};
 pub use reynolds::Reynolds;

@@ -1,17 +1,16 @@
-ghost use Rattle.std.specs.Prelude.{◌≡◌, ◌≤◌, ◌↔◌, IfOk, IfSome, IsNone, All, length, replicate};
+ghost use Rattle.std.specs.Prelude.{◌≡◌, ◌↔◌, IfOk, IfSome, IsNone, length};
 ghost use Rattle.std.specs.Int.{◌∣◌};
 ghost use Rattle.alg_core.specs.Fields.{Has};
-ghost use Rattle.alg_core.specs.Spaces.{over, entries, Fits, IsPlace};
-ghost use Rattle.alg_core.specs.Vectors.{vec};
-ghost use Rattle.poly_module.specs.GreatestExponents.{total};
-ghost use Rattle.matrix_group.specs.Actions.{IsSquare};
+ghost use Rattle.alg_core.specs.Spaces.{over};
+ghost use Rattle.poly_module.specs.SpaceVectors.{vector_of, IsVectorOf, IsPoly, IsPolyOf, HasPolynomials};
+ghost use Rattle.poly_module.specs.Sizes.{IsLow};
 ghost use Rattle.matrix_group.specs.Groups.{size, cells_of};
-ghost use Rattle.reynolds_op.specs.Averages.{ones, sum_over, reynolds, IsMatrixGroup, IsAveraging};
+ghost use Rattle.reynolds_op.specs.Averages.{ones, sum_over, reynolds, IsMatrixGroup, IsAveraging, ActTogether, AveragesOn};
 
 use alg_core::{Field, Memory, Space, TermOrder};
 use lin_algebra::Matrix;
 use matrix_group::{Group, act};
-use poly_module::{Poly, add, make, scale};
+use poly_module::{Poly, Vector, add, scale};
 use std::alloc::Global;
 use std::marker::Model;
 
@@ -51,17 +50,14 @@ fn sum_of_images<F: Field, O: TermOrder>(
     f: &Poly<F::Elem>,
     elements: &[Matrix<F::Elem>],
 ) -> Result<Poly<F::Elem>, Memory>
-    requires fits { Fits (over F.field O.order space.now) (entries (λ m. m) f.now) }
-    requires polynomial { All (λ e. e.0.0 ≡ 0) (entries (λ m. m) f.now) }
-    requires square { All (IsSquare (F.field space.now.field) (size elements.now)) elements.now }
-    requires within { size elements.now ≤ length space.now.grading.weights.items }
-    requires constants { IsPlace (over F.field O.order space.now) (0, replicate (length space.now.grading.weights.items) 0) }
-    requires small { All (λ e. total e.0.1 ≤ 4294967295) (entries (λ m. m) f.now) }
-    ensures fits { IfOk result (λ v. Fits (over F.field O.order space.now) (entries (λ m. m) v)) }
-    ensures sum { let k = F.field space.now.field in IfOk result (λ v. vec k (entries (λ m. m) v) ≡ sum_over k (size elements.now) (cells_of elements.now) (vec k (entries (λ m. m) f.now))) }
+    requires polynomials { HasPolynomials (over F.field O.order space.now) }
+    requires polynomial { IsPoly (over F.field O.order space.now) (λ a. a) f.now }
+    requires matrices { ActTogether (over F.field O.order space.now) elements.now }
+    requires low { IsLow 4294967295 (λ a. a) f.now }
+    ensures sum { let S = over F.field O.order space.now in let n = size elements.now in
+        IfOk result (IsVectorOf S (λ a. a) (sum_over S.field n (cells_of elements.now) (vector_of S (λ a. a) f.now))) }
 {
-    let terms = Vec::new(alloc);
-    let mut sum = make(alloc, space, terms.as_slice())?;
+    let mut sum = Vector::zero(alloc);
     for i in 0..elements.len() {
         let image = act(alloc, space, f, &elements[i])?;
         sum = add(alloc, space, &sum, &image)?;
@@ -91,15 +87,12 @@ impl<'g, E: Copy> Reynolds<'g, E> {
         space: &Space<F, O>,
         f: &Poly<E>,
     ) -> Result<Poly<E>, Memory>
-        requires fits { Fits (over F.field O.order space.now) (entries (λ m. m) f.now) }
-        requires polynomial { All (λ e. e.0.0 ≡ 0) (entries (λ m. m) f.now) }
-        requires averaging { IsAveraging (F.field space.now.field) (size self.now.elements) self.now }
-        requires within { size self.now.elements ≤ length space.now.grading.weights.items }
-        requires constants { IsPlace (over F.field O.order space.now) (0, replicate (length space.now.grading.weights.items) 0) }
-        requires small { All (λ e. total e.0.1 ≤ 4294967295) (entries (λ m. m) f.now) }
-        ensures fits { IfOk result (λ v. Fits (over F.field O.order space.now) (entries (λ m. m) v)) }
-        ensures polynomial { IfOk result (λ v. All (λ e. e.0.0 ≡ 0) (entries (λ m. m) v)) }
-        ensures average { let k = F.field space.now.field in IfOk result (λ v. vec k (entries (λ m. m) v) ≡ reynolds k (size self.now.elements) self.now (vec k (entries (λ m. m) f.now))) }
+        requires averaging { AveragesOn (over F.field O.order space.now) self.now }
+        requires polynomials { HasPolynomials (over F.field O.order space.now) }
+        requires polynomial { IsPoly (over F.field O.order space.now) (λ a. a) f.now }
+        requires low { IsLow 4294967295 (λ a. a) f.now }
+        ensures average { let S = over F.field O.order space.now in let n = size self.now.elements in
+            IfOk result (IsPolyOf S (λ a. a) (reynolds S.field n self.now (vector_of S (λ a. a) f.now))) }
     {
         let sum = sum_of_images(alloc, space, f, self.group.elements())?;
         let average = scale(alloc, space, self.factor, &sum)?;

@@ -1,6 +1,6 @@
 use Rattle.std.proofs.Common.{slice_set, ap, ◌∙◌}
 use Rattle.alg_core.specs.Monomials.{mono}
-use Rattle.matrix_group.proofs.ActionSteps.{mono_set}
+use Rattle.poly_module.proofs.ConstantSteps.{mono_set}
 use Rattle.matrix_group.proofs.action.exponents_of.Goals as goal
 
 pub returns-clause-variable : goal.returns-clause-variable
