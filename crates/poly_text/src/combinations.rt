@@ -1,5 +1,6 @@
 ghost use Rattle.std.specs.Prelude.{◌≡◌, ℕ, ◌<◌, ◌+◌, ◌^◌, ◌++◌, List, [], Some, None, length, map, get_or, All, IfOk};
-ghost use Rattle.alg_core.specs.Spaces.{over, entry, entries, Fits};
+ghost use Rattle.alg_core.specs.Spaces.{over, entry, entries};
+ghost use Rattle.poly_module.specs.SpaceVectors.{IsVector};
 ghost use Rattle.alg_core.specs.Vectors.{Entry};
 ghost use Rattle.poly_text.specs.Texts.{by_position, combination_term, combination_text};
 ghost use Rattle.poly_text.specs.Printing.{term_text};
@@ -19,8 +20,9 @@ pub fn print_comb<O: TermOrder>(
     space: &Space<PrimeField, O>,
     c: &Comb<u16>,
 ) -> Result<Vec<u8>, Memory>
-    requires fits { Fits (over ⟦<PrimeField as Field>⟧.field O.order space.now) (entries (λ m. m) c.now.vector) }
-    ensures text { let S = over ⟦<PrimeField as Field>⟧.field O.order space.now in IfOk result (λ t. t.items ≡ combination_text S (entries (λ m. m) c.now.vector)) }
+    requires vector { IsVector (over ⟦<PrimeField as Field>⟧.field O.order space.now) (λ m. m) c.now.vector }
+    ensures text { let S = over ⟦<PrimeField as Field>⟧.field O.order space.now in
+        IfOk result (λ t. t.items ≡ combination_text S (entries (λ m. m) c.now.vector)) }
 {
     let terms = c.vector.terms();
     let p = space.field.characteristic();

@@ -7,11 +7,7 @@ mod fault;
 mod laws;
 mod names;
 mod print;
-#[cfg(test)]
-mod print_tests;
 mod read;
-#[cfg(test)]
-mod read_tests;
 mod scan;
 mod syntax;
 mod values;
@@ -22,3 +18,4 @@ pub use laws::{printed_texts, trees_of_texts};
 pub use names::Names;
 pub use print::print_poly;
 pub use read::read_poly;
+pub use syntax::Mark;

@@ -1,5 +1,6 @@
-ghost use Rattle.std.specs.Prelude.{◌≡◌, ◌<◌, ◌+◌, ◌^◌, ◌++◌, ◌||◌, length, All, IfOk, decimal, not};
-ghost use Rattle.alg_core.specs.Spaces.{over, entry, entries, Fits};
+ghost use Rattle.std.specs.Prelude.{◌≡◌, ◌<◌, ◌+◌, ◌^◌, ◌++◌, ◌||◌, length, IfOk, decimal, not};
+ghost use Rattle.alg_core.specs.Spaces.{over, entry, entries};
+ghost use Rattle.poly_module.specs.SpaceVectors.{IsPoly};
 ghost use Rattle.poly_text.specs.Syntax.{Marked, Factor, mark_byte, variable_text, factor_text};
 ghost use Rattle.poly_text.specs.Texts.{place_count, variable_at, factors_from, is_negative, absolute, term_of, polynomial_text};
 ghost use Rattle.poly_text.specs.Printing.{star, joined, coefficient_text, is_none, sign_text, term_text};
@@ -19,10 +20,10 @@ pub fn print_poly<O: TermOrder>(
     names: &Names,
     f: &Poly<u16>,
 ) -> Result<Vec<u8>, Memory>
-    requires fits { Fits (over ⟦<PrimeField as Field>⟧.field O.order space.now) (entries (λ m. m) f.now) }
-    requires polynomial { All (λ e. e.0.0 ≡ 0) (entries (λ m. m) f.now) }
+    requires polynomial { IsPoly (over ⟦<PrimeField as Field>⟧.field O.order space.now) (λ m. m) f.now }
     requires places { length space.now.grading.weights.items ≡ place_count names.now }
-    ensures text { let S = over ⟦<PrimeField as Field>⟧.field O.order space.now in IfOk result (λ t. t.items ≡ polynomial_text S names.now (entries (λ m. m) f.now)) }
+    ensures text { let S = over ⟦<PrimeField as Field>⟧.field O.order space.now in
+        IfOk result (λ t. t.items ≡ polynomial_text S names.now (entries (λ m. m) f.now)) }
 {
     let terms = f.terms();
     let p = space.field.characteristic();

@@ -1,5 +1,6 @@
 ghost use Rattle.std.specs.Prelude.{◌≡◌, ◌≢◌, ◌<◌, ℕ, List, [], ◌∷◌, length, get_or, map, replicate, All, IfOk, IfErr, None};
-ghost use Rattle.alg_core.specs.Spaces.{over, entries, Fits, IsPlace};
+ghost use Rattle.alg_core.specs.Spaces.{over, entries, Fits};
+ghost use Rattle.poly_module.specs.SpaceVectors.{IsPoly, HasPolynomials};
 ghost use Rattle.alg_core.specs.Vectors.{Entry};
 ghost use Rattle.poly_text.specs.Faults.{IsTextFault, IsRead};
 ghost use Rattle.poly_text.specs.Syntax.{Term, IsText};
@@ -28,12 +29,14 @@ pub fn read_poly<O: TermOrder>(
 ) -> Result<Poly<u16>, TextFault>
     requires places { length space.now.grading.weights.items ≡ place_count names.now }
     requires distinct { AreDistinct names.now }
-    requires constants { let S = over (⟦<PrimeField as Field>⟧.field) O.order space.now in IsPlace S (0, replicate (length S.weights) 0) }
-    ensures fits { let S = over (⟦<PrimeField as Field>⟧.field) O.order space.now in IfOk result (λ f. Fits S (entries (λ m. m) f)) }
-    ensures positions { IfOk result (λ f. All (λ e. e.0.0 ≡ 0) (entries (λ m. m) f)) }
-    ensures readable { let S = over (⟦<PrimeField as Field>⟧.field) O.order space.now in IfOk result (λ f. All (IsReadable S names.now) (entries (λ m. m) f)) }
-    ensures printed { let S = over (⟦<PrimeField as Field>⟧.field) O.order space.now in IfOk result (λ f. polynomial_text S names.now (entries (λ m. m) f) ≡ text.now) }
-    ensures every { let S = over (⟦<PrimeField as Field>⟧.field) O.order space.now in (es : List (Entry ℕ)) → Fits S es → All (λ e. e.0.0 ≡ 0) es → All (IsReadable S names.now) es
+    requires polynomials { HasPolynomials (over (⟦<PrimeField as Field>⟧.field) O.order space.now) }
+    ensures polynomial { IfOk result (IsPoly (over (⟦<PrimeField as Field>⟧.field) O.order space.now) (λ m. m)) }
+    ensures readable { let S = over (⟦<PrimeField as Field>⟧.field) O.order space.now in
+        IfOk result (λ f. All (IsReadable S names.now) (entries (λ m. m) f)) }
+    ensures printed { let S = over (⟦<PrimeField as Field>⟧.field) O.order space.now in
+        IfOk result (λ f. polynomial_text S names.now (entries (λ m. m) f) ≡ text.now) }
+    ensures every { let S = over (⟦<PrimeField as Field>⟧.field) O.order space.now in
+        (es : List (Entry ℕ)) → Fits S es → All (λ e. e.0.0 ≡ 0) es → All (IsReadable S names.now) es
         → polynomial_text S names.now es ≡ text.now → IsRead (entries (λ m. m)) result es }
     ensures fault { let S = over (⟦<PrimeField as Field>⟧.field) O.order space.now in IfErr result (IsTextFault S names.now text.now) }
 {

@@ -1,6 +1,6 @@
 /// The list whose members a variable with a sign and an index stands for: `@`, `$` or `%`.
 #[derive(Clone, Copy, Debug, PartialEq, Eq)]
-pub(crate) enum Mark {
+pub enum Mark {
     Primary,
     Irreducible,
     Secondary,

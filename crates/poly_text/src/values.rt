@@ -12,7 +12,7 @@ use crate::fault::TextFault;
 use crate::names::Names;
 use crate::syntax::TermText;
 use alg_core::{Field, Memory, ModTerm, Mono, Space, Term, TermOrder, ValueKind, weighted_degree};
-use poly_module::{Poly, make};
+use poly_module::{Poly, Vector};
 use prime_field::PrimeField;
 use std::alloc::Global;
 
@@ -68,8 +68,10 @@ fn whole_term<O: TermOrder>(
 ) -> Result<Term<u16, Mono>, Memory>
     requires places { length space.now.grading.weights.items ≡ place_count names.now }
     requires term { IsTerm (term_of term.now) }
-    requires passes { let S = over (⟦<PrimeField as Field>⟧.field) O.order space.now in first_failed (term_conditions S.field.characteristic names.now (term_of term.now)) ≡ None }
-    ensures is { let S = over (⟦<PrimeField as Field>⟧.field) O.order space.now in IfOk result (λ t. entry (λ m. m) t ≡ entry_of S names.now (term_of term.now)) }
+    requires passes { let S = over (⟦<PrimeField as Field>⟧.field) O.order space.now in
+        first_failed (term_conditions S.field.characteristic names.now (term_of term.now)) ≡ None }
+    ensures is { let S = over (⟦<PrimeField as Field>⟧.field) O.order space.now in
+        IfOk result (λ t. entry (λ m. m) t ≡ entry_of S names.now (term_of term.now)) }
 {
     let exponents = exponents_of(alloc, names, term.factors.as_slice())?;
     let mono = Mono::from_exps(alloc, exponents.as_slice())?;
@@ -88,7 +90,8 @@ fn falls<O: TermOrder>(
 ) -> bool
     requires before { let S = over (⟦<PrimeField as Field>⟧.field) O.order space.now in Fits S (entries (λ m. m) before.now) }
     requires place { let S = over (⟦<PrimeField as Field>⟧.field) O.order space.now in IsPlace S (place (λ m. m) term.now.at) }
-    ensures is { let S = over (⟦<PrimeField as Field>⟧.field) O.order space.now in result ≡ falls S (last_place (entries (λ m. m) before.now)) (place (λ m. m) term.now.at) }
+    ensures is { let S = over (⟦<PrimeField as Field>⟧.field) O.order space.now in
+        result ≡ falls S (last_place (entries (λ m. m) before.now)) (place (λ m. m) term.now.at) }
 {
     if before.len() == 0 {
         return true;
@@ -105,7 +108,8 @@ fn place_fault<O: TermOrder>(
 ) -> Option<ValueKind>
     requires before { let S = over (⟦<PrimeField as Field>⟧.field) O.order space.now in Fits S (entries (λ m. m) before.now) }
     requires place { let S = over (⟦<PrimeField as Field>⟧.field) O.order space.now in IsPlace S (place (λ m. m) term.now.at) }
-    ensures is { let S = over (⟦<PrimeField as Field>⟧.field) O.order space.now in result ≡ first_failed (place_conditions S (last_place (entries (λ m. m) before.now)) (place (λ m. m) term.now.at)) }
+    ensures is { let S = over (⟦<PrimeField as Field>⟧.field) O.order space.now in
+        result ≡ first_failed (place_conditions S (last_place (entries (λ m. m) before.now)) (place (λ m. m) term.now.at)) }
 {
     if weighted_degree(space.grading.weights.as_slice(), 0, &term.at.mono) > MAX_DEGREE {
         return Some(ValueKind::Degree);
@@ -130,8 +134,10 @@ fn next_term<O: TermOrder>(
     requires term { IsTerm (term_of text.now) }
     ensures fault { let S = over (⟦<PrimeField as Field>⟧.field) O.order space.now in
         Faults result (fault_or (length before.now + 1) (first_failed (conditions S names.now (last_place (entries (λ m. m) before.now)) (term_of text.now))) None) }
-    ensures is { let S = over (⟦<PrimeField as Field>⟧.field) O.order space.now in IfOk result (λ t. entry (λ m. m) t ≡ entry_of S names.now (term_of text.now)) }
-    ensures fits { let S = over (⟦<PrimeField as Field>⟧.field) O.order space.now in IfOk result (λ t. Fits S (entries (λ m. m) before.now ++ (entry (λ m. m) t ∷ []))) }
+    ensures is { let S = over (⟦<PrimeField as Field>⟧.field) O.order space.now in
+        IfOk result (λ t. entry (λ m. m) t ≡ entry_of S names.now (term_of text.now)) }
+    ensures fits { let S = over (⟦<PrimeField as Field>⟧.field) O.order space.now in
+        IfOk result (λ t. Fits S (entries (λ m. m) before.now ++ (entry (λ m. m) t ∷ []))) }
 {
     let number = before.len() as u64 + 1;
     if let Some(kind) = term_fault(space.field.characteristic(), names, text) {
@@ -154,8 +160,10 @@ pub(crate) fn polynomial_of<O: TermOrder>(
     requires places { length space.now.grading.weights.items ≡ place_count names.now }
     requires constants { let S = over (⟦<PrimeField as Field>⟧.field) O.order space.now in IsPlace S (0, replicate (length S.weights) 0) }
     requires tree { All IsTerm (terms_of terms.now) }
-    ensures fault { let S = over (⟦<PrimeField as Field>⟧.field) O.order space.now in Faults result (first_fault S names.now None 1 (terms_of terms.now)) }
-    ensures value { let S = over (⟦<PrimeField as Field>⟧.field) O.order space.now in IfOk result (λ f. entries (λ m. m) f ≡ map (entry_of S names.now) (terms_of terms.now)) }
+    ensures fault { let S = over (⟦<PrimeField as Field>⟧.field) O.order space.now in
+        Faults result (first_fault S names.now None 1 (terms_of terms.now)) }
+    ensures value { let S = over (⟦<PrimeField as Field>⟧.field) O.order space.now in
+        IfOk result (λ f. entries (λ m. m) f ≡ map (entry_of S names.now) (terms_of terms.now)) }
     ensures fits { let S = over (⟦<PrimeField as Field>⟧.field) O.order space.now in IfOk result (λ f. Fits S (entries (λ m. m) f)) }
     ensures positions { IfOk result (λ f. All (λ e. e.0.0 ≡ 0) (entries (λ m. m) f)) }
 {
@@ -164,6 +172,5 @@ pub(crate) fn polynomial_of<O: TermOrder>(
         let term = next_term(alloc, space, names, made.as_slice(), text)?;
         made.push(term)?;
     }
-    let polynomial = make(alloc, space, made.as_slice())?;
-    Ok(polynomial)
+    Ok(Vector::of(made))
 }

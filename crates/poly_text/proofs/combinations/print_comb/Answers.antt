@@ -20,7 +20,7 @@ term_here g c =
     let S = over (λ (f : PrimeField). gfp f.p f.listed) g.O.TermOrder.order c.args.space.now in
     let h : c.loop-i.i < length c.in_ok-places.places.items = omega arith in
     place_term S (λ m. m) c.terms-terms.result.now c.in_ok-places.places.items c.loop-i.i c.index.result.now c.index-terms-place.result c.in_ok-places.ensures.within h c.index.ensures c.index-terms-place.is
-    (subst (λ l. Fits S (entries (λ m. m) l)) (sym c.terms-terms.ensures.is) c.requires.fits)
+    (subst (λ l. Fits S (entries (λ m. m) l)) (sym c.terms-terms.ensures.is) c.requires.vector)
 
 pub push_combination_term-requires-clause-below : goal.push_combination_term-requires-clause-below
 push_combination_term-requires-clause-below g c = subst (λ p. c.index-terms-place.result.coef < p) (sym c.characteristic-p.ensures.is) (lt_of_test _ _ (term_here g c).has)
@@ -51,7 +51,7 @@ returns g c =
       | then-is_empty+in_ok-push w ↦ ap (λ t. t.items) w.text-is ∙ w.in_ok-push.ensures.items ∙ ap (λ (b : Bool). old ++ (if b then 48 ∷ [] else [])) (sym w.if-is_empty.true)
       | else-is_empty w ↦ ap (λ t. t.items) w.text-is ∙ sym (append-nil old) ∙ ap (λ (b : Bool). old ++ (if b then 48 ∷ [] else [])) (sym w.if-is_empty.false)
     ] in
-    let low = fits_low S es (subst (λ l. Fits S (entries (λ m. m) l)) (sym c.terms-terms.ensures.is) c.requires.fits) in
+    let low = fits_low S es (subst (λ l. Fits S (entries (λ m. m) l)) (sym c.terms-terms.ensures.is) c.requires.vector) in
     record {
       text =
           opened_all combination_term (λ (q : ℕ × ℕ). get_or (entries (λ m. m) c.terms-terms.result.now) q.1 d) c.characteristic-p.result _ c.in_ok-places.places.items _ c.loop-i.i c.is_empty.result old _ (omega arith)

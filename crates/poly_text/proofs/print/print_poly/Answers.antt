@@ -14,7 +14,7 @@ use Rattle.poly_text.proofs.print.print_poly.Goals.{then-is_empty+in_ok-push, el
 pub push_term-requires : goal.push_term-requires
 push_term-requires g c =
     let S = over (λ (f : PrimeField). gfp f.p f.listed) g.O.TermOrder.order c.args.space.now in
-    let term = entry_at S (λ m. m) c.terms-terms.result.now c.loop-i.i c.index-terms-i.result c.loop-i-test.true c.index-terms-i.is (subst (λ l. Fits S (entries (λ m. m) l)) (sym c.terms-terms.ensures.is) c.requires.fits) in
+    let term = entry_at S (λ m. m) c.terms-terms.result.now c.loop-i.i c.index-terms-i.result c.loop-i-test.true c.index-terms-i.is (subst (λ l. Fits S (entries (λ m. m) l)) (sym c.terms-terms.ensures.is) c.requires.polynomial.fits) in
     record { below = subst (λ p. c.index-terms-i.result.coef < p) (sym c.characteristic-p.ensures.is) (lt_of_test _ _ term.has) }
 
 pub loop-i-preserved : goal.loop-i-preserved

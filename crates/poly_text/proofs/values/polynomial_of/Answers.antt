@@ -3,12 +3,11 @@ use Rattle.std.specs.Prelude.{All}
 use Rattle.std.proofs.lemmas.List.{map-append}
 use Rattle.std.proofs.lemmas.Result.{err_from_is_err_and}
 use Rattle.alg_core.specs.Spaces.{over, Fits, entry, entries}
-use Rattle.alg_core.specs.Vectors.{Entry, vec}
-use Rattle.alg_core.proofs.FittingLists.{fits_unique}
+use Rattle.alg_core.specs.Vectors.{Entry}
 use Rattle.poly_text.specs.Syntax.{IsTerm}
 use Rattle.poly_text.specs.Trees.{terms_of}
 use Rattle.poly_text.proofs.EntrySteps.{field_of}
-use Rattle.poly_text.proofs.TermSteps.{Reads, given_term, reads_count, reads_more, reads_fault, reads_all, positions_zero, fits_given}
+use Rattle.poly_text.proofs.TermSteps.{Reads, given_term, reads_count, reads_more, reads_fault, reads_all, positions_zero}
 use Rattle.poly_text.proofs.values.polynomial_of.Goals as goal
 
 pub next_term-requires-clause-term : goal.next_term-requires-clause-term
@@ -34,18 +33,16 @@ loop-text-preserved g c =
     ap (entries (λ m. m)) (c.in_ok-push.ensures.items ∙ ap (λ l. l ++ (c.in_ok-term.term ∷ [])) (sym c.as_slice.ensures.value)) ∙ map-append (entry (λ m. m)) c.as_slice.result.now (c.in_ok-term.term ∷ []) in
     subst (Reads S c.args.names.now c.args.terms.now (c.loop-text.text-index + 1)) (sym pushed) more
 
-pub make-requires : goal.make-requires
-make-requires g c =
-    let S = over field_of g.O.TermOrder.order c.args.space.now in
-    record { given = fits_given S (entries (λ m. m) c.as_slice-2.result.now) (subst (λ l. Fits S (entries (λ m. m) l)) (sym c.as_slice-2.ensures.value) c.loop-text.invariant.fits) }
-
 pub returns-clause-value : goal.returns-clause-value
 returns-clause-value g c =
     let S = over field_of g.O.TermOrder.order c.args.space.now in
     let all = reads_all S c.args.names.now c.args.terms.now c.loop-text.text-index (entries (λ m. m) c.loop-text.made.items) (omega arith) c.loop-text.invariant in
-    fits_unique S (entries (λ m. m) c.in_ok-polynomial.polynomial) (entries (λ m. m) c.loop-text.made.items) c.in_ok-polynomial.ensures.fits c.loop-text.invariant.fits
-    (c.in_ok-polynomial.ensures.sum ∙ ap (λ l. vec S.field (entries (λ m. m) l)) c.as_slice-2.ensures.value)
-    ∙ all.1
+    ap (entries (λ m. m)) c.of.ensures.is ∙ all.1
+
+pub returns-clause-fits : goal.returns-clause-fits
+returns-clause-fits g c =
+    let S = over field_of g.O.TermOrder.order c.args.space.now in
+    subst (λ l. Fits S (entries (λ m. m) l)) (sym c.of.ensures.is) c.loop-text.invariant.fits
 
 pub returns-clause-positions : goal.returns-clause-positions
 returns-clause-positions g c =
