@@ -4,3 +4,6 @@ pub mod OrderSteps
 pub mod MonomialLists
 pub mod FittingLists
 pub mod PlaceDegrees
+pub mod Members
+pub mod KeyLists
+pub mod MonomialCounts

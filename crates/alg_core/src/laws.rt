@@ -1,4 +1,4 @@
-ghost use Rattle.std.specs.Prelude.{◌≡◌, ◌⊎◌, ◌<◌, List};
+ghost use Rattle.std.specs.Prelude.{◌≡◌, ◌⊎◌, ◌↔◌, ◌<◌, ◌≤◌, ◌++◌, ◌∷◌, ℕ, Bool, true, false, List, [], filter, length, replicate};
 ghost use Rattle.std.specs.declared.cmp.Ordering.TheVariants.{Less};
 ghost use Rattle.alg_core.specs.Rings.{Linear};
 ghost use Rattle.alg_core.specs.Fields.{Scalar, scalars, is_field};
@@ -13,6 +13,9 @@ ghost use Rattle.alg_core.specs.CommonMultiples.{mon_lcm};
 ghost use Rattle.alg_core.specs.Spaces.{over, Fits};
 ghost use Rattle.alg_core.specs.SpaceOrder.{key_order};
 ghost use Rattle.alg_core.specs.SpaceGrading.{AllPositive, degree, rank};
+ghost use Rattle.alg_core.specs.Lists.{In};
+ghost use Rattle.alg_core.specs.KeyLists.{Falls, InSpace, keys_up_to, keys_of_degree};
+ghost use Rattle.alg_core.specs.Binomials.{monomials_of_degree};
 
 use crate::{Field, Space, TermOrder};
 
@@ -74,4 +77,23 @@ pub fn finite_degrees<F: Field, O: TermOrder>(_space: &Space<F, O>)
     ensures rises { let S = over F.field O.order _space.now in
         (positive : AllPositive S.weights) (s t : Key) → degree S s ≡ degree S t
         → (key_order S).compare s t ≡ Less → rank S positive s < rank S positive t }
+{}
+
+/// Where no weight of the grading is 0, the keys of a space up to a degree, and those of one degree, are
+/// a finite list, which falls: so each stands there once, and after it all that are smaller. A test that
+/// passes one member less leaves a shorter list. Where each variable has the weight 1, the keys of a
+/// degree at position 0 are as many as the binomial coefficient says.
+pub fn key_lists<F: Field, O: TermOrder>(_space: &Space<F, O>)
+    ensures up_to { let S = over F.field O.order _space.now in AllPositive S.weights
+        → (d : ℕ) (t : Key) → In t (keys_up_to S d) ↔ (InSpace S t × (degree S t ≤ d)) }
+    ensures of_degree { let S = over F.field O.order _space.now in AllPositive S.weights
+        → (d : ℕ) (t : Key) → In t (keys_of_degree S d) ↔ (InSpace S t × (degree S t ≡ d)) }
+    ensures up_to_falls { let S = over F.field O.order _space.now in (d : ℕ) → Falls (key_order S) (keys_up_to S d) }
+    ensures of_degree_falls { let S = over F.field O.order _space.now in (d : ℕ) → Falls (key_order S) (keys_of_degree S d) }
+    ensures after { let o = key_order (over F.field O.order _space.now) in (s t : Key) (front back : List Key)
+        → Falls o (front ++ t ∷ back) → In s (front ++ t ∷ back) → o.compare s t ≡ Less → In s back }
+    ensures fewer { (f g : Key → Bool) (l : List Key) (t : Key) → ((s : Key) → f s ≡ true → g s ≡ true)
+        → In t l → f t ≡ false → g t ≡ true → length (filter f l) < length (filter g l) }
+    ensures count { let S = over F.field O.order _space.now in let n = length S.weights in
+        S.weights ≡ replicate n 1 → S.shifts ≡ 0 ∷ [] → 0 < n → (d : ℕ) → length (keys_of_degree S d) ≡ monomials_of_degree n d }
 {}

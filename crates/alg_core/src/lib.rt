@@ -29,7 +29,7 @@ pub use exponents::weighted_degree;
 pub use field::Field;
 pub use input_fault::InputFault;
 pub use laws::{
-    common_multiples, finite_degrees, fitting_lists, linear_functions, vector_sums, vector_terms,
+    common_multiples, finite_degrees, fitting_lists, key_lists, linear_functions, vector_sums, vector_terms,
     vectors_are_maps,
 };
 pub use limits::Limits;
