@@ -1,10 +1,10 @@
 -- The lists of the keys of a degree and of the degrees up to a cap: their members, and that they fall.
-use Rattle.std.proofs.Common.{◌≡◌, ◌⊎◌, ◌↔◌, ℕ, zero, suc, ◌+◌, ◌<◌, ◌≤◌, ◌==◌, nat_le, Bool, true, false, cond, List, [], ◌∷◌, ◌++◌, length, map, sym, ap, ap₂, ◌∙◌, refl, subst, arith, inl, inr}
+use Rattle.std.proofs.Common.{◌≡◌, ◌⊎◌, ◌↔◌, ℕ, zero, suc, ◌+◌, ◌<◌, ◌≤◌, ◌==◌, nat_le, Bool, true, false, cond, List, [], ◌∷◌, ◌++◌, length, map, sym, ap, ◌∙◌, refl, subst, arith, inl, inr}
 use Rattle.std.specs.Prelude.{filter}
 use Rattle.std.specs.declared.cmp.Ordering.{Ordering}
 use Rattle.std.specs.declared.cmp.Ordering.TheVariants.{Less, Equal, Greater}
 use Rattle.std.proofs.lemmas.Bool.Decides.{nat_tests}
-use Rattle.alg_core.specs.Monomials.{Mon, mono, exponent_mono, exponents, length_exponents, mono_exponents}
+use Rattle.alg_core.specs.Monomials.{mono, exponent_mono, exponents, mono_exponents}
 use Rattle.alg_core.specs.Keys.{Place, Key, key}
 use Rattle.alg_core.specs.KeyOrders.{OrderOn, less_irreflexive, less_asymmetric, greater_less}
 use Rattle.alg_core.specs.Lists.{In, map_in, pairs, in_pairs, numbers_below, in_numbers_below}
@@ -12,7 +12,7 @@ use Rattle.alg_core.specs.Spaces.{SpaceOver}
 use Rattle.alg_core.specs.SpaceOrder.{key_order}
 use Rattle.alg_core.specs.SpaceGrading.{AllPositive, weight, weight_ext, height, degree, exponent_lists, in_exponent_lists_degree}
 use Rattle.alg_core.specs.KeyLists.{Falls, inserted_by, inserted, sorted, place_degree, places_up_to, InSpace, keys_up_to, keys_of_degree}
-use Rattle.alg_core.proofs.Members.{from_map, from_pairs, from_numbers_below, in_filter, from_filter, in_cases, Apart}
+use Rattle.alg_core.proofs.Members.{from_map, from_pairs, from_numbers_below, in_filter, from_filter, Apart}
 use Rattle.alg_core.proofs.MonomialLists.{length_mono}
 
 module _ {T : Type 0} (o : OrderOn T) where
@@ -154,9 +154,10 @@ module _ {E : Type 0} (S : SpaceOver E) where
   from_keys_up_to d t h = go (from_map key t (places_up_to S.weights S.shifts d) (from_sorted (key_order S) t _ h))
     where
       go : (p : Place) × In p (places_up_to S.weights S.shifts d) × (key p ≡ t) → InSpace S t × (degree S t ≤ d)
-      go r = let q = from_places_up_to S.weights S.shifts d r.0 r.1 in
-          (subst (InSpace S) r.2 (record { variables = let l = length_mono r.0.1 in let m = q.0 in omega arith; position = q.1 }),
-           subst (λ u. degree S u ≤ d) r.2 (let e = degree_place r.0 in let b = q.2 in omega arith))
+      go r = let q = from_places_up_to S.weights S.shifts d r.0 r.1 in (
+        subst (InSpace S) r.2 (record { variables = let l = length_mono r.0.1 in let m = q.0 in omega arith; position = q.1 }),
+        subst (λ u. degree S u ≤ d) r.2 (let e = degree_place r.0 in let b = q.2 in omega arith),
+      )
 
   pub in_keys_up_to : AllPositive S.weights → (d : ℕ) (t : Key) → InSpace S t → degree S t ≤ d → In t (keys_up_to S d)
   unfolding keys_up_to degree key
@@ -165,8 +166,8 @@ module _ {E : Type 0} (S : SpaceOver E) where
       let same : mono (exponents n t.1.0) ≡ t.1 = mono_exponents n t.1 h.variables in
       let equal : weight S.weights 0 (exponents n t.1.0) ≡ weight S.weights 0 t.1.0 = sym (weight_ext S.weights 0 (mono (exponents n t.1.0)).0 (exponents n t.1.0) (exponent_mono (exponents n t.1.0))) ∙ ap (λ m. weight S.weights 0 m.0) same in
       in_sorted (key_order S) t _
-          (subst (λ m. In (t.0, m) (map key (places_up_to S.weights S.shifts d))) same
-          (map_in key (t.0, exponents n t.1.0) (places_up_to S.weights S.shifts d) (in_places_up_to S.weights S.shifts d positive t.0 t.1.0 h.position (omega arith) (omega arith))))
+      (subst (λ m. In (t.0, m) (map key (places_up_to S.weights S.shifts d))) same
+      (map_in key (t.0, exponents n t.1.0) (places_up_to S.weights S.shifts d) (in_places_up_to S.weights S.shifts d positive t.0 t.1.0 h.position (omega arith) (omega arith))))
 
   pub keys_up_to_exact : AllPositive S.weights → (d : ℕ) (t : Key) → In t (keys_up_to S d) ↔ (InSpace S t × (degree S t ≤ d))
   keys_up_to_exact positive d t = (from_keys_up_to d t, λ h. in_keys_up_to positive d t h.0 h.1)

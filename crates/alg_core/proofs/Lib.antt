@@ -7,3 +7,7 @@ pub mod PlaceDegrees
 pub mod Members
 pub mod KeyLists
 pub mod MonomialCounts
+pub mod MonomialParts
+pub mod BlockKeys
+pub mod OnesLaws
+pub mod KeyMultiples

@@ -2,9 +2,9 @@
 --
 --   Apart l            no member of l is equal to a later one
 --   dropped l h        the list l without the member at the place h
-use Rattle.std.proofs.Common.{◌≡◌, ◌⊎◌, ℕ, zero, suc, ◌+◌, ◌<◌, ◌≤◌, Bool, true, false, cond, List, [], ◌∷◌, ◌++◌, length, map, sym, ap, ◌∙◌, refl, subst, arith, inl, inr}
+use Rattle.std.proofs.Common.{◌≡◌, ◌⊎◌, ℕ, zero, suc, ◌<◌, ◌≤◌, Bool, true, false, cond, List, [], ◌∷◌, ◌++◌, length, map, sym, ap, ◌∙◌, refl, subst, arith, inl, inr}
 use Rattle.std.specs.Prelude.{filter}
-use Rattle.alg_core.specs.Lists.{In, in_left, in_right, pairs, numbers_below}
+use Rattle.alg_core.specs.Lists.{In, pairs, numbers_below}
 
 pub in_cases : {A : Type 0} (x : A) (l l' : List A) → In x (l ++ l') → In x l ⊎ In x l'
 in_cases x [] l' h = inr h

@@ -1,5 +1,5 @@
 -- How many keys of a degree there are where each variable has the weight 1: a binomial coefficient.
-use Rattle.std.proofs.Common.{◌≡◌, ◌⊎◌, ℕ, zero, suc, ◌+◌, ◌-◌, ◌*◌, ◌<◌, ◌≤◌, List, [], ◌∷◌, ◌++◌, length, map, replicate, sym, ap, ap₂, ◌∙◌, refl, subst, arith, inl, inr}
+use Rattle.std.proofs.Common.{◌≡◌, ◌⊎◌, ℕ, zero, suc, ◌+◌, ◌-◌, ◌<◌, List, [], ◌∷◌, ◌++◌, length, map, replicate, sym, ap, ap₂, ◌∙◌, refl, subst, arith, inl, inr}
 use Rattle.std.proofs.lemmas.List.{length-map, length-append}
 use Rattle.alg_core.specs.Binomials.{choose, monomials_of_degree}
 use Rattle.alg_core.specs.Monomials.{mono, exponent_mono, exponents, length_exponents, mono_exponents, mono_injective}
@@ -8,7 +8,7 @@ use Rattle.alg_core.specs.Lists.{In, map_in, in_left, in_right}
 use Rattle.alg_core.specs.Spaces.{SpaceOver}
 use Rattle.alg_core.specs.SpaceOrder.{key_order}
 use Rattle.alg_core.specs.SpaceGrading.{AllPositive, weight, weight_ext, height, degree}
-use Rattle.alg_core.specs.KeyLists.{InSpace, keys_of_degree}
+use Rattle.alg_core.specs.KeyLists.{keys_of_degree}
 use Rattle.alg_core.proofs.Members.{in_cases, from_map, Apart, apart_append, apart_map, apart_no_longer}
 use Rattle.alg_core.proofs.MonomialLists.{length_mono}
 use Rattle.alg_core.proofs.KeyLists.{falls_apart, falls_keys_of_degree, keys_of_degree_exact}
@@ -205,7 +205,7 @@ module _ {E : Type 0} (S : SpaceOver E) (d : ℕ) (ones : S.weights ≡ replicat
       let many = ap length one in
       subst (λ u. In u (keys_of_degree S d)) r.2
       ((keys_of_degree_exact S (subst AllPositive (sym ones) (positive_ones n)) d (0, mono r.0)).1
-       (record { variables = let l = s.0 in omega arith; position = omega arith }, let t = s.1 in omega arith))
+      (record { variables = let l = s.0 in omega arith; position = omega arith }, let t = s.1 in omega arith))
 
   -- as many keys of degree d as the binomial coefficient says
   pub length_keys_of_degree : 0 < length S.weights → length (keys_of_degree S d) ≡ monomials_of_degree (length S.weights) d

@@ -84,11 +84,11 @@ then_less Less p h a b = a refl
 then_less Equal p h a b = b h
 then_less Greater p h a b = cc
 
-ones_positive : (n : ℕ) → all_positive (replicate n 1) ≡ true
+pub ones_positive : (n : ℕ) → all_positive (replicate n 1) ≡ true
 ones_positive zero = refl
 ones_positive (suc n) = ones_positive n
 
-length_ones : (n : ℕ) → length {A = ℕ} (replicate n 1) ≡ n
+pub length_ones : (n : ℕ) → length {A = ℕ} (replicate n 1) ≡ n
 length_ones zero = refl
 length_ones (suc n) = ap suc (length_ones n)
 

@@ -25,3 +25,5 @@ pub mod Lists
 pub mod SpaceGrading
 pub mod CommonMultiples
 pub mod KeyLists
+pub mod MonomialParts
+pub mod PolynomialSpaces

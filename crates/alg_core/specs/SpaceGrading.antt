@@ -7,12 +7,11 @@
 --   exponent_lists n d    all lists of n exponents that are at most d
 --   degree S t            the degree of a key in the space S
 --   rank S t              how many keys of the degree of t are smaller than t, where no weight is 0
-use Rattle.std.proofs.Common.{◌≡◌, ℕ, zero, suc, ◌+◌, ◌*◌, ◌<◌, ◌≤◌, Bool, true, false, cond, List, [], ◌∷◌, ◌++◌, length, map, sym, ap, ap₂, ◌∙◌, refl, subst, arith, inl, inr, ◌⊎◌}
+use Rattle.std.proofs.Common.{◌≡◌, ℕ, zero, suc, ◌+◌, ◌*◌, ◌<◌, ◌≤◌, Bool, true, false, cond, List, [], ◌∷◌, length, sym, ap, ap₂, ◌∙◌, refl, subst, arith, inl, inr}
 use Rattle.std.specs.declared.cmp.Ordering.{Ordering}
 use Rattle.std.specs.declared.cmp.Ordering.TheVariants.{Less}
 use Rattle.std.specs.Ordering.{is_lt}
 use Rattle.std.proofs.lemmas.Cmp.{tied_itself}
-use native.Mathlib.Decide.{dec_le}
 use native.Mathlib.Nat.{le_refl}
 use Rattle.alg_core.specs.Monomials.{Mon, monomials, mono, exponent, trimmed, trimmed_cons, added, exponent_added, exponent_mul, exponents, mono_exponents}
 use Rattle.alg_core.specs.Keys.{Key, times_key}

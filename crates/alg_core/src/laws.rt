@@ -1,21 +1,26 @@
-ghost use Rattle.std.specs.Prelude.{◌≡◌, ◌⊎◌, ◌↔◌, ◌<◌, ◌≤◌, ◌++◌, ◌∷◌, ℕ, Bool, true, false, List, [], filter, length, replicate};
+ghost use Rattle.std.specs.Prelude.{◌≡◌, ◌⊎◌, ◌↔◌, ◌<◌, ◌≤◌, ◌+◌, ◌++◌, ◌∷◌, ℕ, Bool, true, false, List, [], filter, length, replicate};
 ghost use Rattle.std.specs.declared.cmp.Ordering.TheVariants.{Less};
 ghost use Rattle.alg_core.specs.Rings.{Linear};
-ghost use Rattle.alg_core.specs.Fields.{Scalar, scalars, is_field};
+ghost use Rattle.std.specs.Int.{◌∣◌};
+ghost use Rattle.alg_core.specs.Fields.{Scalar, scalars, is_field, ones};
 ghost use Rattle.alg_core.specs.FormalSums.{FormalSum};
 ghost use Rattle.alg_core.specs.FreeModules.{single, class};
-ghost use Rattle.alg_core.specs.Keys.{Key, key_same};
+ghost use Rattle.alg_core.specs.Keys.{Key, key_same, KeyDivides};
 ghost use Rattle.alg_core.specs.KeyOrders.{OrderOn};
 ghost use Rattle.alg_core.specs.CanonicalLists.{IsCanonical, IsLead, terms};
 ghost use Rattle.alg_core.specs.Vectors.{Entry, Vect, vectors, formal_sum, vec, plus, zero_vector, coef_at};
-ghost use Rattle.alg_core.specs.Monomials.{Mon, Divides};
-ghost use Rattle.alg_core.specs.CommonMultiples.{mon_lcm};
+ghost use Rattle.alg_core.specs.Monomials.{Mon, monomials, Divides};
+ghost use Rattle.alg_core.specs.CommonMultiples.{mon_lcm, common_multiple};
 ghost use Rattle.alg_core.specs.Spaces.{over, Fits};
-ghost use Rattle.alg_core.specs.SpaceOrder.{key_order};
-ghost use Rattle.alg_core.specs.SpaceGrading.{AllPositive, degree, rank};
+ghost use Rattle.alg_core.specs.SpaceOrder.{key_order, key_compare};
+ghost use Rattle.alg_core.specs.SpaceGrading.{AllPositive, weight, degree, rank};
 ghost use Rattle.alg_core.specs.Lists.{In};
 ghost use Rattle.alg_core.specs.KeyLists.{Falls, InSpace, keys_up_to, keys_of_degree};
 ghost use Rattle.alg_core.specs.Binomials.{monomials_of_degree};
+ghost use Rattle.alg_core.specs.DpOrder.{dp_order};
+ghost use Rattle.alg_core.specs.BlockOrder.{block_order};
+ghost use Rattle.alg_core.specs.EliminationOrder.{elimination_order};
+ghost use Rattle.alg_core.specs.MonomialParts.{variable_part, mark_part, as_marks};
 
 use crate::{Field, Space, TermOrder};
 
@@ -59,6 +64,53 @@ pub fn common_multiples()
     ensures left { (a b : Mon) → Divides a (mon_lcm a b) }
     ensures right { (a b : Mon) → Divides b (mon_lcm a b) }
     ensures least { (a b c : Mon) → Divides a c → Divides b c → Divides (mon_lcm a b) c }
+{}
+
+/// So is that of two keys of one position.
+pub fn common_key_multiples()
+    ensures left { (s t : Key) → KeyDivides s (common_multiple s t) }
+    ensures right { (s t : Key) → s.0 ≡ t.0 → KeyDivides t (common_multiple s t) }
+    ensures least { (s t u : Key) → KeyDivides s u → KeyDivides t u → KeyDivides (common_multiple s t) u }
+{}
+
+/// A sum of ones is zero exactly where the characteristic divides their number.
+pub fn sums_of_ones<F: Field>(_field: &F)
+    ensures zero { let k = F.field _field.now in (n : ℕ) → (ones k n ≡ k.zero) ↔ (k.characteristic ∣ n) }
+{}
+
+/// Each monomial in n variables and marks is its part in the variables times its part in the marks; the
+/// parts of a product are the products of the parts, and degrees add.
+pub fn monomial_parts()
+    ensures whole { (n : ℕ) (m : Mon) → monomials.◌·◌ (variable_part n m) (as_marks n (mark_part n m)) ≡ m }
+    ensures variables { (n : ℕ) (m : Mon) → length m.0 ≤ n → (variable_part n m ≡ m) × (mark_part n m ≡ monomials.one) }
+    ensures marks { (n : ℕ) (m : Mon) → (variable_part n (as_marks n m) ≡ monomials.one) × (mark_part n (as_marks n m) ≡ m) }
+    ensures variables_product { (n : ℕ) (a b : Mon) → variable_part n (monomials.◌·◌ a b) ≡ monomials.◌·◌ (variable_part n a) (variable_part n b) }
+    ensures marks_product { (n : ℕ) (a b : Mon) → mark_part n (monomials.◌·◌ a b) ≡ monomials.◌·◌ (mark_part n a) (mark_part n b) }
+    ensures product { (n : ℕ) (a b : Mon) → as_marks n (monomials.◌·◌ a b) ≡ monomials.◌·◌ (as_marks n a) (as_marks n b) }
+    ensures degree { (ws ds : List ℕ) (m : Mon) → let n = length ws in length m.0 ≤ n + length ds
+        → weight (ws ++ ds) 0 m.0 ≡ weight ws 0 (variable_part n m).0 + weight ds 0 (mark_part n m).0 }
+    ensures marks_degree { (ws ds : List ℕ) (m : Mon) → length m.0 ≤ length ds → weight (ws ++ ds) 0 (as_marks (length ws) m).0 ≡ weight ds 0 m.0 }
+{}
+
+/// On keys in n variables and the marks the block order puts a key with a smaller degree in the variables
+/// lower; on keys in the variables alone it is the degree reverse lexicographic order.
+pub fn block_orders()
+    ensures smaller { (n : ℕ) (ws : List ℕ) (s t : Key) → length s.1.0 ≤ n + length ws → length t.1.0 ≤ n + length ws
+        → weight (replicate n 1) 0 (variable_part n s.1).0 < weight (replicate n 1) 0 (variable_part n t.1).0
+        → key_compare (n + length ws) (block_order n ws) s t ≡ Less }
+    ensures variables { (n : ℕ) (ws : List ℕ) (s t : Key) → length s.1.0 ≤ n → length t.1.0 ≤ n
+        → key_compare (n + length ws) (block_order n ws) s t ≡ key_compare n (dp_order (replicate n 1)) s t }
+{}
+
+/// On keys in the variables of a space, those below a key of the second block are of the second block;
+/// inside a block the elimination order is the degree reverse lexicographic order, then the earlier position.
+pub fn elimination_orders()
+    ensures second { (first : ℕ) (ws : List ℕ) (s t : Key) → let n = length ws in length s.1.0 ≤ n → length t.1.0 ≤ n
+        → first ≤ t.0 → key_compare n (elimination_order first ws) s t ≡ Less → first ≤ s.0 }
+    ensures inside_first { (first : ℕ) (ws : List ℕ) (s t : Key) → let n = length ws in s.0 < first → t.0 < first
+        → key_compare n (elimination_order first ws) s t ≡ key_compare n (dp_order ws) s t }
+    ensures inside_second { (first : ℕ) (ws : List ℕ) (s t : Key) → let n = length ws in first ≤ s.0 → first ≤ t.0
+        → key_compare n (elimination_order first ws) s t ≡ key_compare n (dp_order ws) s t }
 {}
 
 /// A list of terms that fits a space is told by its vector: it is the canonical list of the vector by
