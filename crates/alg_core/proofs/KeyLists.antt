@@ -149,15 +149,17 @@ module _ {E : Type 0} (S : SpaceOver E) where
   unfolding degree key
   degree_place p = ap (λ d. d + height S.shifts p.0) (weight_ext S.weights 0 (mono p.1).0 p.1 (exponent_mono p.1))
 
+  abbrev in_order : Key → Bool
+  in_order t = S.order.fits t.0 (length S.weights)
+
   pub from_keys_up_to : (d : ℕ) (t : Key) → In t (keys_up_to S d) → InSpace S t × (degree S t ≤ d)
   unfolding keys_up_to key
-  from_keys_up_to d t h = go (from_map key t (places_up_to S.weights S.shifts d) (from_sorted (key_order S) t _ h))
-    where
-      go : (p : Place) × In p (places_up_to S.weights S.shifts d) × (key p ≡ t) → InSpace S t × (degree S t ≤ d)
-      go r = let q = from_places_up_to S.weights S.shifts d r.0 r.1 in (
-        subst (InSpace S) r.2 (record { variables = let l = length_mono r.0.1 in let m = q.0 in omega arith; position = q.1 }),
-        subst (λ u. degree S u ≤ d) r.2 (let e = degree_place r.0 in let b = q.2 in omega arith),
-      )
+  from_keys_up_to d t h =
+      let f = from_filter in_order t (map key (places_up_to S.weights S.shifts d)) (from_sorted (key_order S) t _ h) in
+      let r = from_map key t (places_up_to S.weights S.shifts d) f.0 in
+      let q = from_places_up_to S.weights S.shifts d r.0 r.1 in
+      let short : length t.1.0 ≤ length S.weights = let l = length_mono r.0.1 in let m = q.0 in let e = ap (λ (u : Key). length u.1.0) r.2 in omega arith in
+      (record { fits = f.1; variables = short; position = subst (λ u. u.0 < length S.shifts) r.2 q.1 }, subst (λ u. degree S u ≤ d) r.2 (let e = degree_place r.0 in let b = q.2 in omega arith))
 
   pub in_keys_up_to : AllPositive S.weights → (d : ℕ) (t : Key) → InSpace S t → degree S t ≤ d → In t (keys_up_to S d)
   unfolding keys_up_to degree key
@@ -165,16 +167,16 @@ module _ {E : Type 0} (S : SpaceOver E) where
       let n = length S.weights in
       let same : mono (exponents n t.1.0) ≡ t.1 = mono_exponents n t.1 h.variables in
       let equal : weight S.weights 0 (exponents n t.1.0) ≡ weight S.weights 0 t.1.0 = sym (weight_ext S.weights 0 (mono (exponents n t.1.0)).0 (exponents n t.1.0) (exponent_mono (exponents n t.1.0))) ∙ ap (λ m. weight S.weights 0 m.0) same in
-      in_sorted (key_order S) t _
-      (subst (λ m. In (t.0, m) (map key (places_up_to S.weights S.shifts d))) same
-      (map_in key (t.0, exponents n t.1.0) (places_up_to S.weights S.shifts d) (in_places_up_to S.weights S.shifts d positive t.0 t.1.0 h.position (omega arith) (omega arith))))
+      let place = in_places_up_to S.weights S.shifts d positive t.0 t.1.0 h.position (omega arith) (omega arith) in
+      in_sorted (key_order S) t _ (in_filter in_order t (map key (places_up_to S.weights S.shifts d))
+          (subst (λ m. In (t.0, m) (map key (places_up_to S.weights S.shifts d))) same (map_in key (t.0, exponents n t.1.0) (places_up_to S.weights S.shifts d) place)) h.fits)
 
   pub keys_up_to_exact : AllPositive S.weights → (d : ℕ) (t : Key) → In t (keys_up_to S d) ↔ (InSpace S t × (degree S t ≤ d))
   keys_up_to_exact positive d t = (from_keys_up_to d t, λ h. in_keys_up_to positive d t h.0 h.1)
 
   pub falls_keys_up_to : (d : ℕ) → Falls (key_order S) (keys_up_to S d)
   unfolding keys_up_to
-  falls_keys_up_to d = falls_sorted (key_order S) (map key (places_up_to S.weights S.shifts d))
+  falls_keys_up_to d = falls_sorted (key_order S) (filter in_order (map key (places_up_to S.weights S.shifts d)))
 
   equal_test : (x d : ℕ) → (x == d) ≡ true → x ≡ d
   equal_test x d h = grind (arith, nat_tests)

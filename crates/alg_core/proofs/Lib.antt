@@ -11,3 +11,4 @@ pub mod MonomialParts
 pub mod BlockKeys
 pub mod OnesLaws
 pub mod KeyMultiples
+pub mod VectorEntries

@@ -1,5 +1,5 @@
 -- How many keys of a degree there are where each variable has the weight 1: a binomial coefficient.
-use Rattle.std.proofs.Common.{◌≡◌, ◌⊎◌, ℕ, zero, suc, ◌+◌, ◌-◌, ◌<◌, List, [], ◌∷◌, ◌++◌, length, map, replicate, sym, ap, ap₂, ◌∙◌, refl, subst, arith, inl, inr}
+use Rattle.std.proofs.Common.{◌≡◌, ◌⊎◌, ℕ, zero, suc, ◌+◌, ◌-◌, ◌<◌, true, List, [], ◌∷◌, ◌++◌, length, map, replicate, sym, ap, ap₂, ◌∙◌, refl, subst, arith, inl, inr}
 use Rattle.std.proofs.lemmas.List.{length-map, length-append}
 use Rattle.alg_core.specs.Binomials.{choose, monomials_of_degree}
 use Rattle.alg_core.specs.Monomials.{mono, exponent_mono, exponents, length_exponents, mono_exponents, mono_injective}
@@ -160,7 +160,7 @@ positive_ones : (n : ℕ) → AllPositive (replicate n 1)
 positive_ones zero = tt
 positive_ones (suc n) = (omega arith, positive_ones n)
 
-module _ {E : Type 0} (S : SpaceOver E) (d : ℕ) (ones : S.weights ≡ replicate (length S.weights) 1) (one : S.shifts ≡ 0 ∷ []) where
+module _ {E : Type 0} (S : SpaceOver E) (d : ℕ) (ones : S.weights ≡ replicate (length S.weights) 1) (one : S.shifts ≡ 0 ∷ []) (fits : S.order.fits 0 (length S.weights) ≡ true) where
   abbrev n : ℕ
   n = length S.weights
 
@@ -205,7 +205,7 @@ module _ {E : Type 0} (S : SpaceOver E) (d : ℕ) (ones : S.weights ≡ replicat
       let many = ap length one in
       subst (λ u. In u (keys_of_degree S d)) r.2
       ((keys_of_degree_exact S (subst AllPositive (sym ones) (positive_ones n)) d (0, mono r.0)).1
-      (record { variables = let l = s.0 in omega arith; position = omega arith }, let t = s.1 in omega arith))
+      (record { fits = fits; variables = let l = s.0 in omega arith; position = omega arith }, let t = s.1 in omega arith))
 
   -- as many keys of degree d as the binomial coefficient says
   pub length_keys_of_degree : 0 < length S.weights → length (keys_of_degree S d) ≡ monomials_of_degree (length S.weights) d

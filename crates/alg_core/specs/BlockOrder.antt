@@ -12,7 +12,7 @@ use Rattle.std.proofs.lemmas.Cmp.{on_total, then_total}
 use Rattle.alg_core.specs.ExponentLists.{product}
 use Rattle.alg_core.specs.Keys.{Place}
 use Rattle.alg_core.specs.PlaceOrders.{PlaceOrder, times_place}
-use Rattle.alg_core.specs.DpOrder.{all_positive, dp_compare, dp_total, dp_tied, dp_kept, dp_no_smaller, length_from_test}
+use Rattle.alg_core.specs.DpOrder.{all_positive, dp_compare, dp_total, dp_tied, dp_kept, dp_alike, dp_no_smaller, length_from_test}
 
 -- the first n exponents by dp, the others by weighted_degree dp, then the earlier position
 abbrev pub block_compare : ℕ → List ℕ → Place → Place → Ordering
@@ -116,5 +116,6 @@ block_order n ws = record {
   total = block_total n ws;
   tied = block_tied n ws;
   kept = block_kept n ws;
+  alike = λ i a b. ap (ordering_then (dp_compare (replicate n 1) (0, take n a) (0, take n b))) (dp_alike ws i 0 (drop n a) (drop n b));
   no_smaller = λ positive m p f e. block_no_smaller n ws m p positive (length_from_test _ _ f) e;
 }

@@ -5,10 +5,10 @@
 --   sorted o l             the members of l, falling, each once
 --   place_degree ws ss p   the degree of a place by the weights ws and the shifts ss
 --   places_up_to ws ss d   the places with an exponent for each weight, a shift, and a degree of at most d
---   InSpace S t            the variables and the position of the key t are those of the space S
+--   InSpace S t            the key t is that of a place of the space S
 --   keys_up_to S d         the keys in the space S that have a degree of at most d, falling
 --   keys_of_degree S d     those of degree d
-use Rattle.std.specs.Prelude.{◌≡◌, ℕ, ◌+◌, ◌<◌, ◌≤◌, ◌==◌, nat_le, List, [], ◌∷◌, length, map, filter}
+use Rattle.std.specs.Prelude.{◌≡◌, ℕ, ◌+◌, ◌<◌, ◌≤◌, ◌==◌, true, nat_le, List, [], ◌∷◌, length, map, filter}
 use Rattle.std.specs.declared.cmp.Ordering.{Ordering}
 use Rattle.std.specs.declared.cmp.Ordering.TheVariants.{Less, Equal, Greater}
 use Rattle.alg_core.specs.Keys.{Place, Key, key}
@@ -47,13 +47,14 @@ unfoldable pub places_up_to : List ℕ → List ℕ → ℕ → List Place
 places_up_to ws ss d = filter (λ p. nat_le (place_degree ws ss p) d) (pairs (λ q a. (q, a)) (numbers_below (length ss)) (exponent_lists (length ws) d))
 
 module _ {E : Type 0} (S : SpaceOver E) where
-  -- in the variables and at the positions of the space
+  -- in the variables and at the positions of the space, for which the order is
   pub record InSpace (t : Key) : Type 0 where
+    pub fits : S.order.fits t.0 (length S.weights) ≡ true
     pub variables : length t.1.0 ≤ length S.weights
     pub position : t.0 < length S.shifts
 
   unfoldable pub keys_up_to : ℕ → List Key
-  keys_up_to d = sorted (key_order S) (map key (places_up_to S.weights S.shifts d))
+  keys_up_to d = sorted (key_order S) (filter (λ t. S.order.fits t.0 (length S.weights)) (map key (places_up_to S.weights S.shifts d)))
 
   unfoldable pub keys_of_degree : ℕ → List Key
   keys_of_degree d = filter (λ t. degree S t == d) (keys_up_to d)

@@ -27,3 +27,4 @@ pub mod CommonMultiples
 pub mod KeyLists
 pub mod MonomialParts
 pub mod PolynomialSpaces
+pub mod VectorEntries

@@ -13,6 +13,7 @@ ghost use Rattle.alg_core.specs.Monomials.{Mon, monomials, Divides};
 ghost use Rattle.alg_core.specs.CommonMultiples.{mon_lcm, common_multiple};
 ghost use Rattle.alg_core.specs.Spaces.{over, Fits};
 ghost use Rattle.alg_core.specs.SpaceOrder.{key_order, key_compare};
+ghost use Rattle.alg_core.specs.VectorEntries.{IsOver, entries_of};
 ghost use Rattle.alg_core.specs.SpaceGrading.{AllPositive, weight, degree, rank};
 ghost use Rattle.alg_core.specs.Lists.{In};
 ghost use Rattle.alg_core.specs.KeyLists.{Falls, InSpace, keys_up_to, keys_of_degree};
@@ -147,5 +148,12 @@ pub fn key_lists<F: Field, O: TermOrder>(_space: &Space<F, O>)
     ensures fewer { (f g : Key → Bool) (l : List Key) (t : Key) → ((s : Key) → f s ≡ true → g s ≡ true)
         → In t l → f t ≡ false → g t ≡ true → length (filter f l) < length (filter g l) }
     ensures count { let S = over F.field O.order _space.now in let n = length S.weights in
-        S.weights ≡ replicate n 1 → S.shifts ≡ 0 ∷ [] → 0 < n → (d : ℕ) → length (keys_of_degree S d) ≡ monomials_of_degree n d }
+        S.weights ≡ replicate n 1 → S.shifts ≡ 0 ∷ [] → S.order.fits 0 n ≡ true → 0 < n → (d : ℕ) → length (keys_of_degree S d) ≡ monomials_of_degree n d }
+{}
+
+/// A vector whose keys are those of places of a space is that of one list of terms that fits the space.
+pub fn vector_lists<F: Field, O: TermOrder>(_space: &Space<F, O>)
+    ensures fits { let S = over F.field O.order _space.now in (v : Vect S.field) → IsOver S v → Fits S (entries_of S v) }
+    ensures is { let S = over F.field O.order _space.now in (v : Vect S.field) → IsOver S v → vec S.field (entries_of S v) ≡ v }
+    ensures only { let S = over F.field O.order _space.now in (es : List (Entry F.Elem)) → Fits S es → entries_of S (vec S.field es) ≡ es }
 {}

@@ -24,4 +24,4 @@ pub returns-clause-fewer : goal.returns-clause-fewer
 returns-clause-fewer g c = λ f h l t. filter_shorter f h l t
 
 pub returns-clause-count : goal.returns-clause-count
-returns-clause-count g c = λ ones one some d. length_keys_of_degree (over g.F.Field.field g.O.TermOrder.order c.args._space.now) d ones one some
+returns-clause-count g c = λ ones one fits some d. length_keys_of_degree (over g.F.Field.field g.O.TermOrder.order c.args._space.now) d ones one fits some
