@@ -169,7 +169,7 @@ module _ {E : Type 0} (S : SpaceOver E) where
       let equal : weight S.weights 0 (exponents n t.1.0) ≡ weight S.weights 0 t.1.0 = sym (weight_ext S.weights 0 (mono (exponents n t.1.0)).0 (exponents n t.1.0) (exponent_mono (exponents n t.1.0))) ∙ ap (λ m. weight S.weights 0 m.0) same in
       let place = in_places_up_to S.weights S.shifts d positive t.0 t.1.0 h.position (omega arith) (omega arith) in
       in_sorted (key_order S) t _ (in_filter in_order t (map key (places_up_to S.weights S.shifts d))
-          (subst (λ m. In (t.0, m) (map key (places_up_to S.weights S.shifts d))) same (map_in key (t.0, exponents n t.1.0) (places_up_to S.weights S.shifts d) place)) h.fits)
+      (subst (λ m. In (t.0, m) (map key (places_up_to S.weights S.shifts d))) same (map_in key (t.0, exponents n t.1.0) (places_up_to S.weights S.shifts d) place)) h.fits)
 
   pub keys_up_to_exact : AllPositive S.weights → (d : ℕ) (t : Key) → In t (keys_up_to S d) ↔ (InSpace S t × (degree S t ≤ d))
   keys_up_to_exact positive d t = (from_keys_up_to d t, λ h. in_keys_up_to positive d t h.0 h.1)

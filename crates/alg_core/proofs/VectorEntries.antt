@@ -1,17 +1,16 @@
 -- A vector over a space has one list of entries that fits.
-use Rattle.std.proofs.Common.{◌≡◌, List, [], ◌∷◌, length, map, inl, inr, refl, sym, ap, ap₂, subst, ◌∙◌, arith}
-use Rattle.std.specs.declared.cmp.Ordering.TheVariants.{Less, Greater}
+use Rattle.std.proofs.Common.{◌≡◌, List, [], ◌∷◌, length, map, inl, inr, refl, sym, ap, ap₂, ◌∙◌}
 use Rattle.alg_core.specs.RingLaws as rings
 use Rattle.alg_core.specs.FormalSums.{FormalSum, regular, coefficient}
 use Rattle.alg_core.specs.FreeModules.{class, coef_class}
-use Rattle.alg_core.specs.Fields.{Scalar, scalars, is_field, scalar, scalar_ext, scalar_value, scalar_of_value}
-use Rattle.alg_core.specs.Monomials.{mono, exponents, length_exponents, exponents_mono, mono_exponents}
+use Rattle.alg_core.specs.Fields.{Scalar, scalars, is_field, scalar_ext, scalar_value, scalar_of_value}
+use Rattle.alg_core.specs.Monomials.{exponents, length_exponents, exponents_mono, mono_exponents}
 use Rattle.alg_core.specs.Keys.{Key, key, key_same}
 use Rattle.alg_core.specs.KeyOrders.{OrderOn}
 use Rattle.alg_core.specs.Lists.{In}
 use Rattle.alg_core.specs.CanonicalLists.{AllBelow, IsCanonical, indicator_no, coefficient_head, coefficient_below, terms, terms_canonical, class_terms}
 use Rattle.alg_core.specs.Vectors.{Entry, Vect, formal_sum, vec, coef_at}
-use Rattle.alg_core.specs.Spaces.{SpaceOver, IsPlace, IsTerm, IsAbove, Fits}
+use Rattle.alg_core.specs.Spaces.{SpaceOver, IsTerm, IsAbove, Fits}
 use Rattle.alg_core.specs.SpaceOrder.{key_order}
 use Rattle.alg_core.specs.KeyLists.{InSpace}
 use Rattle.alg_core.specs.VectorEntries.{IsOver, entry_of, entries_of}
