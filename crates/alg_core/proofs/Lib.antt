@@ -4,3 +4,11 @@ pub mod OrderSteps
 pub mod MonomialLists
 pub mod FittingLists
 pub mod PlaceDegrees
+pub mod Members
+pub mod KeyLists
+pub mod MonomialCounts
+pub mod MonomialParts
+pub mod BlockKeys
+pub mod OnesLaws
+pub mod KeyMultiples
+pub mod VectorEntries

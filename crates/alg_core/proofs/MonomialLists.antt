@@ -2,7 +2,7 @@
 use Rattle.std.proofs.Common.{◌≡◌, ℕ, zero, suc, ◌+◌, ◌-◌, ◌≤◌, max, true, List, [], ◌∷◌, length, refl, sym, arith}
 use Rattle.std.proofs.lemmas.Bool.Decides.{nat_tests}
 use Rattle.alg_core.specs.ExponentLists.{merged, product, quotient, lcm, divides}
-use Rattle.alg_core.specs.Monomials.{exponent, mon_ext, mono, exponent_mono, monomials, exponent_mul, Divides}
+use Rattle.alg_core.specs.Monomials.{exponent, trimmed, trimmed_cons, mon_ext, mono, exponent_mono, monomials, exponent_mul, Divides}
 use Rattle.alg_core.specs.CommonMultiples.{mon_lcm, exponent_lcm, divides_exponents, exponents_divide}
 
 -- a function with f 0 0 = 0, entry by entry
@@ -64,3 +64,15 @@ mono_quotient a b l d = mon_ext _ _ (λ i.
     let t = exponent_merged (λ x y. x - y) refl a b i l in
     let u = exponents_from_divides b a (sym l) d i in
     omega arith)
+
+length_trimmed_cons : (x : ℕ) (l : List ℕ) → length (trimmed_cons x l) ≤ suc (length l)
+unfolding trimmed_cons
+length_trimmed_cons zero [] = omega arith
+length_trimmed_cons zero (y ∷ l) = omega arith
+length_trimmed_cons (suc x) l = omega arith
+
+-- no variable past the end of a list is in its monomial
+pub length_mono : (a : List ℕ) → length (mono a).0 ≤ length a
+unfolding mono trimmed
+length_mono [] = omega arith
+length_mono (x ∷ a) = let h = length_trimmed_cons x (trimmed a) in let i = length_mono a in omega arith

@@ -7,7 +7,7 @@ use Rattle.alg_core.specs.Spaces.{SpaceOver}
 use Rattle.alg_core.specs.ExponentLists.{Within}
 use Rattle.alg_core.specs.SpaceGrading.{AllPositive, weight, weight_ext, height, degree}
 
-weight_weighted_degree : (ws : List ℕ) (i : ℕ) (a : List ℕ) → length a ≡ length ws → weight ws i a ≡ weighted_degree ws a
+pub weight_weighted_degree : (ws : List ℕ) (i : ℕ) (a : List ℕ) → length a ≡ length ws → weight ws i a ≡ weighted_degree ws a
 unfolding weight
 weight_weighted_degree [] i [] e = refl
 weight_weighted_degree [] i (x ∷ a) e = absurd (omega arith)

@@ -12,7 +12,7 @@ use Rattle.std.proofs.lemmas.Cmp.{on_total, then_total}
 use Rattle.alg_core.specs.ExponentLists.{product}
 use Rattle.alg_core.specs.Keys.{Place}
 use Rattle.alg_core.specs.PlaceOrders.{PlaceOrder, times_place}
-use Rattle.alg_core.specs.DpOrder.{all_positive, dp_compare, dp_total, dp_tied, dp_kept, dp_no_smaller, length_from_test}
+use Rattle.alg_core.specs.DpOrder.{all_positive, dp_compare, dp_total, dp_tied, dp_kept, dp_alike, dp_no_smaller, length_from_test}
 
 -- the first n exponents by dp, the others by weighted_degree dp, then the earlier position
 abbrev pub block_compare : ℕ → List ℕ → Place → Place → Ordering
@@ -84,11 +84,11 @@ then_less Less p h a b = a refl
 then_less Equal p h a b = b h
 then_less Greater p h a b = cc
 
-ones_positive : (n : ℕ) → all_positive (replicate n 1) ≡ true
+pub ones_positive : (n : ℕ) → all_positive (replicate n 1) ≡ true
 ones_positive zero = refl
 ones_positive (suc n) = ones_positive n
 
-length_ones : (n : ℕ) → length {A = ℕ} (replicate n 1) ≡ n
+pub length_ones : (n : ℕ) → length {A = ℕ} (replicate n 1) ≡ n
 length_ones zero = refl
 length_ones (suc n) = ap suc (length_ones n)
 
@@ -116,5 +116,6 @@ block_order n ws = record {
   total = block_total n ws;
   tied = block_tied n ws;
   kept = block_kept n ws;
+  alike = λ i a b. ap (ordering_then (dp_compare (replicate n 1) (0, take n a) (0, take n b))) (dp_alike ws i 0 (drop n a) (drop n b));
   no_smaller = λ positive m p f e. block_no_smaller n ws m p positive (length_from_test _ _ f) e;
 }

@@ -3,9 +3,11 @@
 --   differences b a    the exponents of b less those of a, 0 where those are greater
 --   greatest a b       the greater of the exponents
 --   mon_lcm a b        the least common multiple
+--   common_multiple s t   the least common multiple of two keys of one position
 use Rattle.std.specs.Prelude.{◌≡◌, ℕ, zero, suc, ◌-◌, ◌≤◌, max, List, [], ◌∷◌, refl}
 use mathlib.Core.Path.{ap, ◌∙◌}
 use native.Mathlib.Omega.{arith}
+use Rattle.alg_core.specs.Keys.{Key}
 use Rattle.alg_core.specs.Monomials.{exponent, Mon, mon_ext, mono, exponent_mono, monomials, exponent_mul, Divides}
 
 -- the exponents of b less those of a
@@ -55,6 +57,10 @@ exponents_divide a b h = (
 -- the least common multiple
 pub mon_lcm : Mon → Mon → Mon
 mon_lcm a b = mono (greatest a.0 b.0)
+
+-- at the position of both
+abbrev pub common_multiple : Key → Key → Key
+common_multiple s t = (s.0, mon_lcm s.1 t.1)
 
 pub exponent_lcm : (a b : Mon) (i : ℕ) → exponent (mon_lcm a b).0 i ≡ max (exponent a.0 i) (exponent b.0 i)
 unfolding mon_lcm

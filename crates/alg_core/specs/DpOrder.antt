@@ -139,6 +139,9 @@ dp_no_smaller ws m a pos la lm less =
           cc
     ] refl
 
+pub dp_alike : (ws : List ℕ) (i j : ℕ) (a b : List ℕ) → dp_compare ws (i, a) (i, b) ≡ dp_compare ws (j, a) (j, b)
+dp_alike ws i j a b = ap (λ o. ordering_then (nat_cmp (weighted_degree ws a) (weighted_degree ws b)) (ordering_then (reverse_lexicographic a b) o)) (tied_itself nat_cmp_total i ∙ sym (tied_itself nat_cmp_total j))
+
 -- the order, for as many exponents as there are weights
 abbrev pub dp_order : List ℕ → PlaceOrder
 dp_order ws = record {
@@ -148,5 +151,6 @@ dp_order ws = record {
   total = dp_total ws;
   tied = dp_tied ws;
   kept = dp_kept ws;
+  alike = λ i. dp_alike ws i 0;
   no_smaller = λ pos m a f e. dp_no_smaller ws m a pos (length_from_test _ _ f) e;
 }

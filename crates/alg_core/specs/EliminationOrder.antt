@@ -11,7 +11,7 @@ use Rattle.std.proofs.Common.{sym, ap, ◌∙◌, refl}
 use Rattle.std.proofs.lemmas.Cmp.{on_total, then_total, nat_cmp_total, tied_itself}
 use Rattle.alg_core.specs.Keys.{Place}
 use Rattle.alg_core.specs.PlaceOrders.{PlaceOrder, times_place}
-use Rattle.alg_core.specs.DpOrder.{all_positive, dp_compare, dp_total, dp_tied, dp_kept, dp_no_smaller, length_from_test}
+use Rattle.alg_core.specs.DpOrder.{all_positive, dp_compare, dp_total, dp_tied, dp_kept, dp_alike, dp_no_smaller, length_from_test}
 
 then_tied : (o p : Ordering) → ordering_then o p ≡ Equal → (o ≡ Equal) × (p ≡ Equal)
 then_tied Less p h = cc
@@ -35,6 +35,10 @@ pub elimination_no_smaller : (first : ℕ) (ws m : List ℕ) (p : Place) → all
 elimination_no_smaller first ws m p positive long same less =
     dp_no_smaller ws m p positive long same (sym (ap (λ o. ordering_then o (dp_compare ws (times_place m p) p)) (tied_itself nat_cmp_total (cond (nat_lt p.0 first) 1 0))) ∙ less)
 
+pub elimination_alike : (first : ℕ) (ws : List ℕ) (i : ℕ) (a b : List ℕ) → elimination_compare first ws (i, a) (i, b) ≡ elimination_compare first ws (0, a) (0, b)
+elimination_alike first ws i a b = ap (λ o. ordering_then o (dp_compare ws (i, a) (i, b))) (tied_itself nat_cmp_total (cond (nat_lt i first) 1 0)) ∙ dp_alike ws i 0 a b
+    ∙ sym (ap (λ o. ordering_then o (dp_compare ws (0, a) (0, b))) (tied_itself nat_cmp_total (cond (nat_lt 0 first) 1 0)))
+
 -- the order, for as many exponents as there are weights
 abbrev pub elimination_order : ℕ → List ℕ → PlaceOrder
 elimination_order first ws = record {
@@ -44,5 +48,6 @@ elimination_order first ws = record {
   total = elimination_total first ws;
   tied = elimination_tied first ws;
   kept = elimination_kept first ws;
+  alike = elimination_alike first ws;
   no_smaller = λ positive m p f e. elimination_no_smaller first ws m p positive (length_from_test _ _ f) e;
 }

@@ -3,6 +3,7 @@
 --   FieldOn E            operations on a type E, with the laws of a finite field on the values that `has` accepts
 --   sum_of_ones add nought one n   the sum of n ones
 --   Has k a              the field has the value a
+--   ones k n             the sum of n ones in the field
 --   Exact eq             a test that tells values apart
 --   Scalar k             the values that the field has
 --   scalars k            the scalars as a ring
@@ -72,6 +73,10 @@ module _ {E : Type 0} (k : FieldOn E) where
   -- the field has this value
   abbrev pub Has : E → Type 0
   Has a = k.has a ≡ true
+
+  -- n ones
+  abbrev pub ones : ℕ → E
+  ones = sum_of_ones k.add k.zero k.one
 
   -- the values that the field has
   abbrev pub Scalar : Type 0

@@ -24,3 +24,7 @@ pub mod SpaceOrder
 pub mod Lists
 pub mod SpaceGrading
 pub mod CommonMultiples
+pub mod KeyLists
+pub mod MonomialParts
+pub mod PolynomialSpaces
+pub mod VectorEntries

@@ -24,6 +24,8 @@ pub record PlaceOrder : Type 0 where
   pub tied : (p q : Place) → compare p q ≡ Equal → p ≡ q
   -- it is kept when both places are multiplied by one monomial
   pub kept : (m : List ℕ) (p q : Place) → length m ≡ length p.1 → length m ≡ length q.1 → compare (times_place m p) (times_place m q) ≡ compare p q
+  -- at each position the monomials stand as at position 0
+  pub alike : (i : ℕ) (a b : List ℕ) → compare (i, a) (i, b) ≡ compare (0, a) (0, b)
   -- a multiple is never smaller, where the order is positive
   pub no_smaller : is_positive ≡ true → (m : List ℕ) (p : Place) → fits p.0 (length p.1) ≡ true → length m ≡ length p.1 → compare (times_place m p) p ≢ Less
 

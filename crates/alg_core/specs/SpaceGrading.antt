@@ -4,20 +4,20 @@
 --   weight ws i a         the weighted degree of exponents, the first of which is that of variable i; a variable
 --                         beyond the weights has its place, from 1, as weight
 --   height ss q           the shift of a position; beyond the shifts it grows with the position
+--   exponent_lists n d    all lists of n exponents that are at most d
 --   degree S t            the degree of a key in the space S
 --   rank S t              how many keys of the degree of t are smaller than t, where no weight is 0
-use Rattle.std.proofs.Common.{◌≡◌, ℕ, zero, suc, ◌+◌, ◌*◌, ◌<◌, ◌≤◌, Bool, true, false, cond, List, [], ◌∷◌, ◌++◌, length, map, sym, ap, ap₂, ◌∙◌, refl, subst, arith, inl, inr, ◌⊎◌}
+use Rattle.std.proofs.Common.{◌≡◌, ℕ, zero, suc, ◌+◌, ◌*◌, ◌<◌, ◌≤◌, Bool, true, false, cond, List, [], ◌∷◌, length, sym, ap, ap₂, ◌∙◌, refl, subst, arith, inl, inr}
 use Rattle.std.specs.declared.cmp.Ordering.{Ordering}
 use Rattle.std.specs.declared.cmp.Ordering.TheVariants.{Less}
 use Rattle.std.specs.Ordering.{is_lt}
 use Rattle.std.proofs.lemmas.Cmp.{tied_itself}
-use native.Mathlib.Decide.{dec_le}
 use native.Mathlib.Nat.{le_refl}
 use Rattle.alg_core.specs.Monomials.{Mon, monomials, mono, exponent, trimmed, trimmed_cons, added, exponent_added, exponent_mul, exponents, mono_exponents}
 use Rattle.alg_core.specs.Keys.{Key, times_key}
 use Rattle.alg_core.specs.Spaces.{SpaceOver}
 use Rattle.alg_core.specs.SpaceOrder.{key_compare, key_total}
-use Rattle.alg_core.specs.Lists.{In, map_in}
+use Rattle.alg_core.specs.Lists.{In, pairs, in_pairs, numbers_below, in_numbers_below}
 
 -- no weight is 0
 abbrev pub AllPositive : List ℕ → Type 0
@@ -133,48 +133,20 @@ far [] q = omega arith
 far (s ∷ ss) zero = omega arith
 far (s ∷ ss) (suc q) = let h = far ss q in omega arith
 
--- all lists of a length with bounded members
-upto : ℕ → List ℕ
-upto zero = 0 ∷ []
-upto (suc d) = suc d ∷ upto d
+-- all lists of n exponents that are at most d
+unfoldable pub exponent_lists : ℕ → ℕ → List (List ℕ)
+exponent_lists zero d = [] ∷ []
+exponent_lists (suc n) d = pairs ◌∷◌ (numbers_below (suc d)) (exponent_lists n d)
 
-pairs : {A B C : Type 0} → (A → B → C) → List A → List B → List C
-pairs f [] l = []
-pairs f (x ∷ xs) l = map (f x) l ++ pairs f xs l
+in_exponent_lists : (n d : ℕ) (a : List ℕ) → Bounded d a → In (exponents n a) (exponent_lists n d)
+unfolding exponent_lists Bounded exponents
+in_exponent_lists zero d a h = inl refl
+in_exponent_lists (suc n) d [] h = in_pairs ◌∷◌ 0 (exponents n []) (numbers_below (suc d)) (exponent_lists n d) (in_numbers_below 0 (suc d) (omega arith)) (in_exponent_lists n d [] tt)
+in_exponent_lists (suc n) d (x ∷ a) h = in_pairs ◌∷◌ x (exponents n a) (numbers_below (suc d)) (exponent_lists n d) (in_numbers_below x (suc d) (let b = h.0 in omega arith)) (in_exponent_lists n d a h.1)
 
-box : ℕ → ℕ → List (List ℕ)
-box zero d = [] ∷ []
-box (suc n) d = pairs ◌∷◌ (upto d) (box n d)
-
-in_left : {A : Type 0} (x : A) (l l' : List A) → In x l → In x (l ++ l')
-in_left x [] l' h = absurd h
-in_left x (y ∷ l) l' (inl e) = inl e
-in_left x (y ∷ l) l' (inr h) = inr (in_left x l l' h)
-
-in_right : {A : Type 0} (x : A) (l l' : List A) → In x l' → In x (l ++ l')
-in_right x [] l' h = h
-in_right x (y ∷ l) l' h = inr (in_right x l l' h)
-
-in_pairs : {A B C : Type 0} (f : A → B → C) (x : A) (y : B) (xs : List A) (l : List B) → In x xs → In y l → In (f x y) (pairs f xs l)
-unfolding pairs
-in_pairs f x y [] l h g = absurd h
-in_pairs f x y (z ∷ xs) l (inl e) g = in_left _ (map (f z) l) _ (subst (λ u. In (f u y) (map (f z) l)) e (map_in (f z) y l g))
-in_pairs f x y (z ∷ xs) l (inr h) g = in_right _ (map (f z) l) _ (in_pairs f x y xs l h g)
-
-in_upto : (x d : ℕ) → x ≤ d → In x (upto d)
-unfolding upto
-in_upto x zero h = inl (omega arith)
-in_upto x (suc d) h = at (dec_le x d) (in_upto x d)
-  where
-    at : Dec (x ≤ d) → (x ≤ d → In x (upto d)) → (suc d ≡ x) ⊎ In x (upto d)
-    at (yes p) ih = inr (ih p)
-    at (no p) ih = inl (omega arith)
-
-in_box : (n d : ℕ) (a : List ℕ) → Bounded d a → In (exponents n a) (box n d)
-unfolding box Bounded exponents
-in_box zero d a h = inl refl
-in_box (suc n) d [] h = in_pairs ◌∷◌ 0 (exponents n []) (upto d) (box n d) (in_upto 0 d (omega arith)) (in_box n d [] tt)
-in_box (suc n) d (x ∷ a) h = in_pairs ◌∷◌ x (exponents n a) (upto d) (box n d) (in_upto x d h.0) (in_box n d a h.1)
+-- those that are no greater in degree
+pub in_exponent_lists_degree : (ws : List ℕ) (n d : ℕ) (a : List ℕ) → AllPositive ws → weight ws 0 a ≤ d → In (exponents n a) (exponent_lists n d)
+in_exponent_lists_degree ws n d a positive h = in_exponent_lists n d a (bounded_more (weight ws 0 a) d a h (bounded_weight ws 0 a positive))
 
 -- how many members of a list pass
 count : {A : Type 0} → (A → Bool) → List A → ℕ
@@ -218,7 +190,7 @@ module _ {E : Type 0} (S : SpaceOver E) (positive : AllPositive S.weights) where
   below t u = is_lt (order u t)
 
   all : ℕ → List Key
-  all d = pairs (λ q l. (q, mono l)) (upto (length S.shifts + d)) (box (length S.weights + d) d)
+  all d = pairs (λ q l. (q, mono l)) (numbers_below (suc (length S.shifts + d))) (exponent_lists (length S.weights + d) d)
 
   in_all : (t : Key) → In t (all (degree S t))
   unfolding all degree
@@ -227,10 +199,10 @@ module _ {E : Type 0} (S : SpaceOver E) (positive : AllPositive S.weights) where
       let n = length S.weights + d in
       let short : length t.1.0 ≤ n = let h = long S.weights 0 t.1.0 (subst Ends t.1.1 (ends_trimmed t.1.0)) in omega arith in
       let same : mono (exponents n t.1.0) ≡ t.1 = mono_exponents n t.1 short in
-      let high : Bounded d t.1.0 = bounded_more (weight S.weights 0 t.1.0) d t.1.0 (omega arith) (bounded_weight S.weights 0 t.1.0 positive) in
-      let low : t.0 ≤ length S.shifts + d = let h = far S.shifts t.0 in omega arith in
-      subst (λ m. In (t.0, m) (pairs (λ q l. (q, mono l)) (upto (length S.shifts + d)) (box n d))) same
-      (in_pairs (λ q l. (q, mono l)) t.0 (exponents n t.1.0) (upto (length S.shifts + d)) (box n d) (in_upto _ _ low) (in_box n d t.1.0 high))
+      let low : t.0 < suc (length S.shifts + d) = let h = far S.shifts t.0 in omega arith in
+      let here = numbers_below (suc (length S.shifts + d)) in
+      subst (λ m. In (t.0, m) (pairs (λ q l. (q, mono l)) here (exponent_lists n d))) same
+      (in_pairs (λ q l. (q, mono l)) t.0 (exponents n t.1.0) here (exponent_lists n d) (in_numbers_below _ _ low) (in_exponent_lists_degree S.weights n d t.1.0 positive (omega arith)))
 
   is_less : (r : Ordering) → is_lt r ≡ true → r ≡ Less
   is_less r h = grind arith

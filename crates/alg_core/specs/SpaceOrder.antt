@@ -168,6 +168,11 @@ module _ (n : ℕ) (o : PlaceOrder) where
       (ap₂ (slice_cmp nat_cmp) (beyond_mul m s.1) (beyond_mul m t.1) ∙ lexicographic_added (beyond n m.0) (beyond n s.1.0) (beyond n t.1.0))
       (ap₂ o.compare (ap (λ l. (s.0, l)) (exponents_mul m s.1)) (ap (λ l. (t.0, l)) (exponents_mul m t.1)) ∙ o.kept (exponents n m.0) (s.0, exponents n s.1.0) (t.0, exponents n t.1.0) (length_exponents n m.0 ∙ sym (length_exponents n s.1.0)) (length_exponents n m.0 ∙ sym (length_exponents n t.1.0)))
 
+  -- at each position the monomials stand as at position 0
+  pub key_alike : (i : ℕ) (a b : Mon) → key_compare (i, a) (i, b) ≡ key_compare (0, a) (0, b)
+  unfolding key_compare place_of beyond_of
+  key_alike i a b = ap (ordering_then (slice_cmp nat_cmp (trimmed (beyond n a.0)) (trimmed (beyond n b.0)))) (o.alike i (exponents n a.0) (exponents n b.0))
+
   -- on places with n exponents the order of the keys is that of the places
   pub key_compare_places : (p q : Place) → length p.1 ≡ n → length q.1 ≡ n → key_compare (key p) (key q) ≡ o.compare p q
   unfolding key_compare place_of beyond_of key

@@ -29,8 +29,9 @@ pub use exponents::weighted_degree;
 pub use field::Field;
 pub use input_fault::InputFault;
 pub use laws::{
-    common_multiples, finite_degrees, fitting_lists, linear_functions, vector_sums, vector_terms,
-    vectors_are_maps,
+    block_orders, common_key_multiples, common_multiples, elimination_orders, finite_degrees,
+    fitting_lists, key_lists, linear_functions, monomial_parts, sums_of_ones, vector_lists,
+    vector_sums, vector_terms, vectors_are_maps,
 };
 pub use limits::Limits;
 pub use memory::Memory;
@@ -39,7 +40,7 @@ pub use monomial::Monomial;
 pub use name::Name;
 pub use order::TermOrder;
 pub use place::Place;
-pub use space::{Grading, Space};
+pub use space::{Grading, Space, is_place, is_term, term_degree};
 pub use term::{ModTerm, Term};
 pub use value_kind::ValueKind;
 pub use zero::is_zero;

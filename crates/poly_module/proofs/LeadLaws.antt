@@ -1,5 +1,5 @@
 -- Leads of multiples, of sums and of products of polynomials, by the order of a space.
-use Rattle.std.proofs.Common.{◌≡◌, ◌⊎◌, inl, inr, length, arith, sym, ap, ap₂, ◌∙◌, refl, subst}
+use Rattle.std.proofs.Common.{◌≡◌, ◌⊎◌, ◌≤◌, ℕ, List, inl, inr, length, arith, sym, ap, ap₂, ◌∙◌, refl, subst}
 use Rattle.std.specs.declared.cmp.Ordering.{Ordering}
 use Rattle.std.specs.declared.cmp.Ordering.TheVariants.{Less, Equal, Greater}
 use Rattle.alg_core.specs.RingLaws as rings
@@ -10,15 +10,17 @@ use Rattle.alg_core.specs.Rings.{Linear}
 use Rattle.alg_core.specs.FreeModules.{linear_unique}
 use Rattle.alg_core.specs.Fields.{FieldOn, Scalar, scalars, is_field, mul_not_zero}
 use Rattle.alg_core.specs.Monomials.{Mon, monomials, Divides, divides_dec}
-use Rattle.alg_core.specs.Keys.{Key, key_same, keys, times_key, times_key_cancel}
+use Rattle.alg_core.specs.Keys.{Key, key_same, keys, times_key, times_key_product, times_key_cancel}
 use Rattle.alg_core.specs.KeyOrders.{OrderOn, Trichotomy, trichotomy, less_asymmetric, less_irreflexive, less_transitive}
 use Rattle.alg_core.specs.Spaces.{SpaceOver}
-use Rattle.alg_core.specs.SpaceOrder.{key_order, key_kept}
+use Rattle.alg_core.specs.SpaceOrder.{key_order, key_compare, key_kept, key_alike}
+use Rattle.alg_core.specs.EliminationOrder.{elimination_order}
+use Rattle.alg_core.proofs.BlockKeys.{second_block}
 use Rattle.alg_core.specs.Vectors.{Vect, vectors, coef_at, plus, shift}
 use Rattle.alg_core.proofs.VectorLaws.{coef_at_plus, shift_linear, shift_single}
 use Rattle.poly_module.specs.Polynomials.{single_vector, product}
 use Rattle.poly_module.specs.Products.{plus_product, product_linear_left, shift_product}
-use Rattle.poly_module.specs.Parts.{Supp, IsPolynomial, supp_outside, coef_at_single, coef_at_linear, supp_product}
+use Rattle.poly_module.specs.Parts.{InVariables, Supp, IsPolynomial, supp_outside, coef_at_single, coef_at_linear, supp_product}
 use Rattle.poly_module.specs.Modules.{LeadBy}
 use Rattle.poly_module.proofs.Reduced.{difference, coef_difference}
 use Rattle.poly_module.proofs.EchelonLists.{coef_at_act}
@@ -114,18 +116,18 @@ module _ {E : Type 0} (S : SpaceOver E) where
       go Equal = no (λ e. grind arith)
       go Greater = no (λ e. grind arith)
 
-  -- products of monomials at position 0, one smaller and one not greater
-  products_less : (a m b n : Mon) → o.compare (0, a) (0, m) ≡ Less → (b ≡ n) ⊎ (o.compare (0, b) (0, n) ≡ Less) → o.compare (0, monomials.◌·◌ a b) (0, monomials.◌·◌ m n) ≡ Less
-  products_less a m b n h g = go g
+  -- multiples by a smaller monomial of a key that is not greater
+  multiples_less : (a m : Mon) (s t : Key) → o.compare (0, a) (0, m) ≡ Less → (s ≡ t) ⊎ (o.compare s t ≡ Less) → o.compare (times_key a s) (times_key m t) ≡ Less
+  multiples_less a m s t h g = go g
     where
-      first : o.compare (0, monomials.◌·◌ a n) (0, monomials.◌·◌ m n) ≡ Less
-      first = ap₂ o.compare (ap (λ x. (0, x)) (monomials.comm a n)) (ap (λ x. (0, x)) (monomials.comm m n)) ∙ kept n (0, a) (0, m) h
+      first : o.compare (times_key a t) (times_key m t) ≡ Less
+      first = ap₂ o.compare (ap (λ x. (t.0, x)) (monomials.comm a t.1)) (ap (λ x. (t.0, x)) (monomials.comm m t.1)) ∙ key_kept (length S.weights) S.order t.1 (t.0, a) (t.0, m) ∙ key_alike (length S.weights) S.order t.0 a m ∙ h
 
-      go : (b ≡ n) ⊎ (o.compare (0, b) (0, n) ≡ Less) → o.compare (0, monomials.◌·◌ a b) (0, monomials.◌·◌ m n) ≡ Less
-      go (inl e) = ap (λ x. o.compare (0, monomials.◌·◌ a x) (0, monomials.◌·◌ m n)) e ∙ first
-      go (inr q) = less_transitive o _ (0, monomials.◌·◌ a n) _ (kept a (0, b) (0, n) q) first
+      go : (s ≡ t) ⊎ (o.compare s t ≡ Less) → o.compare (times_key a s) (times_key m t) ≡ Less
+      go (inl e) = ap (λ x. o.compare (times_key a x) (times_key m t)) e ∙ first
+      go (inr q) = less_transitive o _ (times_key a t) _ (kept a s t q) first
 
-  module _ (f g : Vect S.field) (m n : Mon) (pf : IsPolynomial S.field f) (pg : IsPolynomial S.field g) (lf : LeadBy S.field (key_order S) f (0, m)) (lg : LeadBy S.field (key_order S) g (0, n)) where
+  module _ (f g : Vect S.field) (m : Mon) (n : Key) (pf : IsPolynomial S.field f) (lf : LeadBy S.field (key_order S) f (0, m)) (lg : LeadBy S.field (key_order S) g n) where
     abbrev c : Scalar S.field
     c = coef_at k f (0, m)
 
@@ -160,25 +162,34 @@ module _ {E : Type 0} (S : SpaceOver E) where
     product_parts = ap (λ w. product k w g) (sym (difference_plus k f first) ∙ (vectors k).add_comm _ _) ∙ plus_product k first rest g
         ∙ ap (λ w. (vectors k).◌+◌ w (product k rest g)) ((product_linear_left k g).act c (single_vector k (0, m)) ∙ ap ((vectors k).◌·◌ c) (sym (shift_product k m g)))
 
-    rest_small : Supp k (λ t. o.compare t (0, monomials.◌·◌ m n) ≡ Less) (product k rest g)
-    unfolding keys
-    rest_small = supp_product k (λ t. (t.0 ≡ 0) × (o.compare t (0, m) ≡ Less)) (λ t. (t.0 ≡ 0) × ((t.1 ≡ n) ⊎ (o.compare (0, t.1) (0, n) ≡ Less))) (λ t. o.compare t (0, monomials.◌·◌ m n) ≡ Less) (λ t. less_dec t _)
-        both rest g rest_keys (λ t nz. (pg t nz, second t (pg t nz) (lead_greatest k o g (0, n) t lg nz)))
+    rest_small : Supp k (λ t. o.compare t (times_key m n) ≡ Less) (product k rest g)
+    rest_small = supp_product k (λ t. (t.0 ≡ 0) × (o.compare t (0, m) ≡ Less)) (λ t. (t ≡ n) ⊎ (o.compare t n ≡ Less)) (λ t. o.compare t (times_key m n) ≡ Less) (λ t. less_dec t _)
+        both rest g rest_keys (λ t nz. lead_greatest k o g n t lg nz)
       where
         at_zero : (t : Key) → t.0 ≡ 0 → t ≡ (0, t.1)
         at_zero t z = ap (λ i. (i, t.1)) z
 
-        second : (t : Key) → t.0 ≡ 0 → (t ≡ (0, n)) ⊎ (o.compare t (0, n) ≡ Less) → (t.1 ≡ n) ⊎ (o.compare (0, t.1) (0, n) ≡ Less)
-        second t z (inl e) = inl (ap (λ x. x.1) e)
-        second t z (inr h) = inr (subst (λ x. o.compare x (0, n) ≡ Less) (at_zero t z) h)
+        both : (s t : Key) → (s.0 ≡ 0) × (o.compare s (0, m) ≡ Less) → (t ≡ n) ⊎ (o.compare t n ≡ Less) → o.compare (keys.◌·◌ s t) (times_key m n) ≡ Less
+        both s t p q = ap (λ x. o.compare x (times_key m n)) (ap (λ x. keys.◌·◌ x t) (at_zero s p.0) ∙ sym (times_key_product s.1 t))
+            ∙ multiples_less s.1 m t n (ap (λ x. o.compare x (0, m)) (sym (at_zero s p.0)) ∙ p.1) q
 
-        both : (s t : Key) → (s.0 ≡ 0) × (o.compare s (0, m) ≡ Less) → (t.0 ≡ 0) × ((t.1 ≡ n) ⊎ (o.compare (0, t.1) (0, n) ≡ Less)) → o.compare (keys.◌·◌ s t) (0, monomials.◌·◌ m n) ≡ Less
-        both s t p q =
-            subst (λ x. o.compare (keys.◌·◌ x t) (0, monomials.◌·◌ m n) ≡ Less) (sym (at_zero s p.0))
-            (subst (λ x. o.compare (keys.◌·◌ (0, s.1) x) (0, monomials.◌·◌ m n) ≡ Less) (sym (at_zero t q.0))
-            (products_less s.1 m t.1 n (subst (λ x. o.compare x (0, m) ≡ Less) (at_zero s p.0) p.1) q.1))
-
-    -- the lead of a product of polynomials is the product of the leads
-    pub lead_product : LeadBy S.field (key_order S) (product S.field f g) (0, monomials.◌·◌ m n)
+    -- the lead of a polynomial times a vector is the product of the leads
+    pub lead_multiple : LeadBy S.field (key_order S) (product S.field f g) (times_key m n)
     unfolding coef_at
-    lead_product = subst (λ v. LeadBy k o v (0, monomials.◌·◌ m n)) (sym product_parts) (lead_plus k o _ _ _ (lead_act k o c lf.there _ _ (lead_shift m g (0, n) lg)) rest_small)
+    lead_multiple = subst (λ v. LeadBy k o v (times_key m n)) (sym product_parts) (lead_plus k o _ _ _ (lead_act k o c lf.there _ _ (lead_shift m g n lg)) rest_small)
+
+module _ {E : Type 0} (k : FieldOn E) (first : ℕ) (ws : List ℕ) (vs ss : List ℕ) where
+  abbrev T : SpaceOver E
+  T = record { field = k; order = elimination_order first ws; weights = vs; shifts = ss }
+
+  -- below a lead of the second block stand keys of the second block alone
+  pub lead_second : length ws ≡ length vs → (v : Vect k) (t : Key) → InVariables k (length vs) v → LeadBy k (key_order T) v t → first ≤ t.0 → Supp k (λ s. first ≤ s.0) v
+  unfolding coef_at
+  lead_second many v t inside lead second s nz = go (lead_greatest k (key_order T) v t s lead nz)
+    where
+      short : (r : Key) → ¬ (coef_at k v r ≡ (scalars k).zero) → length r.1.0 ≤ length ws
+      short r n = let h = inside r n in omega arith
+
+      go : (s ≡ t) ⊎ ((key_order T).compare s t ≡ Less) → first ≤ s.0
+      go (inl e) = subst (λ r. first ≤ r.0) (sym e) second
+      go (inr h) = second_block first ws s t (short s nz) (short t lead.there) second (ap (λ n. key_compare n (elimination_order first ws) s t) many ∙ h)

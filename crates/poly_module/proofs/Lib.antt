@@ -37,3 +37,6 @@ pub mod VectorDegrees
 pub mod ConstantSteps
 pub mod LookupSteps
 pub mod Room
+pub mod Marks
+pub mod RelationIdeals
+pub mod ReducedVariables

@@ -14,12 +14,12 @@ use Rattle.alg_core.specs.Lists.{In}
 use Rattle.alg_core.specs.Vectors.{Vect, vectors, coef_at, plus, zero_vector}
 use Rattle.alg_core.specs.Spaces.{SpaceOver}
 use Rattle.alg_core.specs.SpaceOrder.{key_order}
-use Rattle.poly_module.specs.Parts.{Supp}
+use Rattle.poly_module.specs.Parts.{Supp, select, select_inside, select_outside, supp_select}
 use Rattle.poly_module.specs.Modules.{IsSubspace, LeadBy, InModule, IsGroebnerBasis, listed}
 use Rattle.poly_module.specs.ReducedLists.{LeadsFall, IsReduced, FitsOrder, IsReducedBasis}
 use Rattle.poly_module.proofs.ModuleElements.{module_zero, module_subspace, module_positions, module_within, module_part}
 use Rattle.alg_core.specs.SpaceGrading.{degree}
-use Rattle.poly_module.specs.Degrees.{IsHomogeneous, part, graded_part_inside, graded_part_outside, graded_part_graded}
+use Rattle.poly_module.specs.Degrees.{IsHomogeneous, has_grade, graded_part}
 use Rattle.poly_module.proofs.KeyGrowth.{divisor_not_greater}
 
 module _ {E : Type 0} (k : FieldOn E) where
@@ -148,7 +148,7 @@ module _ {E : Type 0} (k : FieldOn E) where
     reduced_unique vs ws a b = same_list o vs ws a.falling b.falling a.lead (member_of_other o D U sub trans W within up vs ws a b) (member_of_other o D U sub trans W within up ws vs b a)
 
 module _ {E : Type 0} (S : SpaceOver E) {I : Type 0} (g : I → Vect S.field) where
-  divides_trans : (s t u : Key) → KeyDivides s t → KeyDivides t u → KeyDivides s u
+  pub divides_trans : (s t u : Key) → KeyDivides s t → KeyDivides t u → KeyDivides s u
   divides_trans s t u p q = (monomials.◌·◌ q.0 p.0, times_key_mul q.0 p.0 s ∙ ap (times_key q.0) p.1 ∙ q.1)
 
   -- a module over a space with a positive order has at most one reduced basis
@@ -178,41 +178,50 @@ module _ {E : Type 0} (S : SpaceOver E) {I : Type 0} (g : I → Vect S.field) wh
       let p = place_of_member S.field vs c.0 c.2 in
       (p.0, c.1, subst (λ w. LeadBy S.field (key_order S) w c.1) (sym p.1) c.3, c.4)
 
-module _ {E : Type 0} (S : SpaceOver E) {I : Type 0} (g : I → Vect S.field) (d : I → ℕ) (homogeneous : (i : I) → IsHomogeneous S (d i) (g i)) where
-  -- the members of a reduced basis of a module of homogeneous vectors are homogeneous
-  pub reduced_homogeneous : S.order.is_positive ≡ true → ((i : I) → Supp S.field (FitsOrder S) (g i)) → (vs : List (Vect S.field)) → IsReducedBasis S g vs
-      → (v : Vect S.field) (t : Key) → In v vs → LeadBy S.field (key_order S) v t → IsHomogeneous S (degree S t) v
+module _ {E : Type 0} (S : SpaceOver E) {I : Type 0} (g : I → Vect S.field) where
+  -- where a module has the parts of its elements at the keys that pass a test, the lead of a member of the reduced basis
+  -- passes with all its keys
+  pub reduced_selected : {Q : Key → Type 0} (test : (t : Key) → Dec (Q t)) → ((v : Vect S.field) → InModule S.field g v → InModule S.field g (select S.field test v))
+      → S.order.is_positive ≡ true → ((i : I) → Supp S.field (FitsOrder S) (g i)) → (vs : List (Vect S.field)) → IsReducedBasis S g vs
+      → (v : Vect S.field) (t : Key) → In v vs → LeadBy S.field (key_order S) v t → Q t → Supp S.field Q v
   unfolding coef_at zero_vector
-  reduced_homogeneous positive fits vs a v t i lead = go (has_lead (scalars S.field) (is_field S.field) key_same (key_order S) rest)
+  reduced_selected {Q = Q} test closed positive fits vs a v t i lead q = go (has_lead (scalars S.field) (is_field S.field) key_same (key_order S) rest)
     where
       U : Vect S.field → Type 0
       U = InModule S.field g
 
-      same_degree : Vect S.field
-      same_degree = part S (degree S t) v
+      passing : Vect S.field
+      passing = select S.field test v
 
       rest : Vect S.field
-      rest = difference S.field v same_degree
+      rest = difference S.field v passing
 
       inside : U rest
-      inside = subspace_difference S.field U (module_subspace S.field g) v same_degree (a.reduced.inside v i) (module_part S g d homogeneous (degree S t) v (a.reduced.inside v i))
+      inside = subspace_difference S.field U (module_subspace S.field g) v passing (a.reduced.inside v i) (closed v (a.reduced.inside v i))
 
-      -- a key of the rest is a key of v of another degree
-      none : (r : Key) → degree S r ≡ degree S t → coef_at S.field rest r ≡ (scalars S.field).zero
-      none r e = coef_difference S.field v same_degree r ∙ ap (λ c. (scalars S.field).◌+◌ (coef_at S.field v r) ((scalars S.field).◌*◌ ((scalars S.field).neg (scalars S.field).one) c)) (graded_part_inside S.field (degree S) (degree S t) v r e)
+      -- a key of the rest is a key of v that does not pass
+      none : (r : Key) → Q r → coef_at S.field rest r ≡ (scalars S.field).zero
+      none r e = coef_difference S.field v passing r ∙ ap (λ c. (scalars S.field).◌+◌ (coef_at S.field v r) ((scalars S.field).◌*◌ ((scalars S.field).neg (scalars S.field).one) c)) (select_inside S.field test v r e)
           ∙ ap₂ (scalars S.field).◌+◌ (sym (rings.one_mul (scalars S.field) _)) refl ∙ sym (rings.add_mul (scalars S.field) (scalars S.field).one ((scalars S.field).neg (scalars S.field).one) _)
           ∙ ap (λ c. (scalars S.field).◌*◌ c (coef_at S.field v r)) ((scalars S.field).add_neg (scalars S.field).one) ∙ rings.zero_mul (scalars S.field) _
 
-      kept : (r : Key) → ¬ (degree S r ≡ degree S t) → coef_at S.field rest r ≡ coef_at S.field v r
-      kept r n = coef_difference S.field v same_degree r ∙ ap ((scalars S.field).◌+◌ _) (ap ((scalars S.field).◌*◌ _) (graded_part_outside S.field (degree S) (degree S t) v r n) ∙ rings.mul_zero (scalars S.field) _) ∙ (scalars S.field).add_zero _
+      kept : (r : Key) → ¬ Q r → coef_at S.field rest r ≡ coef_at S.field v r
+      kept r n = coef_difference S.field v passing r ∙ ap ((scalars S.field).◌+◌ _) (ap ((scalars S.field).◌*◌ _) (select_outside S.field test v r n) ∙ rings.mul_zero (scalars S.field) _) ∙ (scalars S.field).add_zero _
 
       against : (r : Key) → LeadBy S.field (key_order S) rest r → ⊥
       against r l =
-          let other : ¬ (degree S r ≡ degree S t) = λ e. l.there (none r e) in
+          let other : ¬ Q r = λ e. l.there (none r e) in
           let c = a.reduced.covers rest r inside l in
           no_key S.field (key_order S) KeyDivides U (module_subspace S.field g) (divides_trans S g) (FitsOrder S) (module_positions S.field g (λ q. S.order.fits q (length S.weights) ≡ true) (λ q. Bool-discrete _ _) fits) (divisor_not_greater S positive)
-          vs a.reduced v i t r lead (λ e. other (ap (degree S) e)) (λ z. l.there (kept r other ∙ z)) c.0 c.1 c.2 c.3 c.4
+          vs a.reduced v i t r lead (λ e. other (subst Q (sym e) q)) (λ z. l.there (kept r other ∙ z)) c.0 c.1 c.2 c.3 c.4
 
-      go : HasLead (scalars S.field) (is_field S.field) key_same (key_order S) rest → IsHomogeneous S (degree S t) v
-      go (inl z) = subst (IsHomogeneous S (degree S t)) (sym (difference_zero S.field v same_degree z)) (graded_part_graded S.field (degree S) (degree S t) v)
+      go : HasLead (scalars S.field) (is_field S.field) key_same (key_order S) rest → Supp S.field Q v
+      go (inl z) = subst (Supp S.field Q) (sym (difference_zero S.field v passing z)) (supp_select S.field test v)
       go (inr l) = absurd (against l.0 l.1)
+
+module _ {E : Type 0} (S : SpaceOver E) {I : Type 0} (g : I → Vect S.field) (d : I → ℕ) (homogeneous : (i : I) → IsHomogeneous S (d i) (g i)) where
+  -- the members of a reduced basis of a module of homogeneous vectors are homogeneous
+  pub reduced_homogeneous : S.order.is_positive ≡ true → ((i : I) → Supp S.field (FitsOrder S) (g i)) → (vs : List (Vect S.field)) → IsReducedBasis S g vs
+      → (v : Vect S.field) (t : Key) → In v vs → LeadBy S.field (key_order S) v t → IsHomogeneous S (degree S t) v
+  unfolding graded_part
+  reduced_homogeneous positive fits vs a v t i lead = reduced_selected S g (has_grade S.field (degree S) (degree S t)) (module_part S g d homogeneous (degree S t)) positive fits vs a v t i lead refl

@@ -17,3 +17,4 @@ pub mod Echelons
 pub mod Combinations
 pub mod SpaceVectors
 pub mod Sizes
+pub mod Marks

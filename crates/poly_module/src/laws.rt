@@ -2,7 +2,7 @@ ghost use Rattle.std.specs.Prelude.{◌≡◌, ◌<◌, ◌≤◌, ◌+◌, ℕ,
 ghost use Rattle.std.specs.declared.cmp.Ordering.TheVariants.{Less};
 ghost use Rattle.alg_core.specs.Rings.{Homomorphism};
 ghost use Rattle.alg_core.specs.Fields.{Scalar, scalars};
-ghost use Rattle.alg_core.specs.Monomials.{Mon, monomials};
+ghost use Rattle.alg_core.specs.Monomials.{Mon};
 ghost use Rattle.alg_core.specs.Keys.{Key, keys, times_key};
 ghost use Rattle.alg_core.specs.KeyOrders.{OrderOn};
 ghost use Rattle.alg_core.specs.Lists.{In};
@@ -82,14 +82,14 @@ pub fn vector_degrees<F: Field, O: TermOrder>(_space: &Space<F, O>)
         → part S (d + e) (product S.field f v) ≡ product S.field f (part S e v) }
 {}
 
-/// The lead of a multiple by a monomial is the multiple of the lead, that of a product of polynomials the
-/// product of the leads; smaller keys change no lead, and where lead terms cancel the lead is smaller.
+/// The lead of a multiple by a monomial is the multiple of the lead, that of a multiple by a polynomial the
+/// multiple by its lead; smaller keys change no lead, and where lead terms cancel the lead is smaller.
 pub fn vector_leads<F: Field, O: TermOrder>(_space: &Space<F, O>)
     ensures multiple { let S = over F.field O.order _space.now in (m : Mon) (v : Vect S.field) (t : Key)
         → LeadBy S.field (key_order S) v t → LeadBy S.field (key_order S) (shift S.field m v) (times_key m t) }
-    ensures product { let S = over F.field O.order _space.now in (f g : Vect S.field) (m n : Mon)
-        → IsPolynomial S.field f → IsPolynomial S.field g → LeadBy S.field (key_order S) f (0, m) → LeadBy S.field (key_order S) g (0, n)
-        → LeadBy S.field (key_order S) (product S.field f g) (0, monomials.◌·◌ m n) }
+    ensures product { let S = over F.field O.order _space.now in (f v : Vect S.field) (m : Mon) (t : Key)
+        → IsPolynomial S.field f → LeadBy S.field (key_order S) f (0, m) → LeadBy S.field (key_order S) v t
+        → LeadBy S.field (key_order S) (product S.field f v) (times_key m t) }
     ensures sum { let S = over F.field O.order _space.now in (u v : Vect S.field) (t : Key)
         → LeadBy S.field (key_order S) u t → Supp S.field (λ s. (key_order S).compare s t ≡ Less) v
         → LeadBy S.field (key_order S) (plus S.field u v) t }

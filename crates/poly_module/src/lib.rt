@@ -9,6 +9,7 @@ mod greatest;
 mod laws;
 mod lookups;
 mod merge;
+mod module_laws;
 mod multiple;
 mod product;
 mod signs;
@@ -27,6 +28,7 @@ pub use laws::{
 };
 pub use lookups::{are_equal, coefficient};
 pub use merge::{add, sub};
+pub use module_laws::{mark_translations, reduced_variables, relation_ideals, second_blocks};
 pub use multiple::{mul_term, scale};
 pub use product::mul;
 pub use substitution::substitute;
