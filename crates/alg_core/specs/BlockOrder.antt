@@ -14,7 +14,7 @@ use Rattle.alg_core.specs.Keys.{Place}
 use Rattle.alg_core.specs.PlaceOrders.{PlaceOrder, times_place}
 use Rattle.alg_core.specs.DpOrder.{all_positive, dp_compare, dp_total, dp_tied, dp_kept, dp_alike, dp_no_smaller, length_from_test}
 
--- the first n exponents by dp, the others by weighted_degree dp, then the earlier position
+-- the first n exponents by dp, the others by weighted dp, then the earlier position
 abbrev pub block_compare : ℕ → List ℕ → Place → Place → Ordering
 block_compare n ws = then_cmp (on (λ a. (0, take n a.1)) (dp_compare (replicate n 1))) (on (λ a. (a.0, drop n a.1)) (dp_compare ws))
 

@@ -66,7 +66,7 @@ whole (suc n) [] (y ∷ b) p q = ap₂ trimmed_cons (ap first_of p) (whole n [] 
 whole (suc n) (x ∷ a) [] p q = ap₂ trimmed_cons (ap first_of p) (whole n a [] (ap after_first p) q)
 whole (suc n) (x ∷ a) (y ∷ b) p q = ap₂ trimmed_cons (ap first_of p) (whole n a b (ap after_first p) q)
 
--- the lexicographic order of what is beyond_of the space's variables
+-- the lexicographic order of what is beyond the space's variables
 pub lexicographic : List ℕ → List ℕ → Ordering
 lexicographic a b = slice_cmp nat_cmp (trimmed a) (trimmed b)
 

@@ -3,10 +3,10 @@
 --   power Y x n                 the n-th power of x in the ring Y
 --   image Y xs i                the image of variable i: the i-th of xs, from 0, and 1 past its end
 --   monomial_value Y xs a       the product of the powers of the images xs to the exponents a
---   variable_vector k i         the same as a polynomial
+--   variable_vector k i         variable i as a polynomial
 --   position_vector k           the vector 1 at position 1, which moves positions up by one
 --   substitution k Y xs u       the value of u in the algebra Y, where the variables have the images xs
---   substitute k xs u           the same in the vectors over k
+--   substitute k xs u           the value of the vector u over k, where the variables have the images xs
 use Rattle.std.specs.Prelude.{◌≡◌, ℕ, zero, suc, ◌+◌, List, [], ◌∷◌, map}
 use mathlib.Core.Path.{sym, ap, ap₂, ◌∙◌, refl, fun_ext}
 use native.Mathlib.Nat.{suc-add}
