@@ -12,3 +12,4 @@ pub mod BlockKeys
 pub mod OnesLaws
 pub mod KeyMultiples
 pub mod VectorEntries
+pub mod SpanLaws

@@ -28,3 +28,4 @@ pub mod KeyLists
 pub mod MonomialParts
 pub mod PolynomialSpaces
 pub mod VectorEntries
+pub mod Spans

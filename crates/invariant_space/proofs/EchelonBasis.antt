@@ -15,7 +15,7 @@ use Rattle.poly_module.specs.Forms.{OfDegree}
 use Rattle.poly_module.proofs.Echelon.{echelon_unique}
 use Rattle.lin_algebra.specs.declared.matrix.Matrix.{Matrix}
 use Rattle.lin_algebra.specs.Vectors.{vector, vectors as columns}
-use Rattle.lin_algebra.specs.Spans.{InSpan}
+use Rattle.alg_core.specs.Spans.{InSpan}
 use Rattle.lin_algebra.specs.Echelons.{PivotRow, rows, IsReducedEchelon}
 use Rattle.lin_algebra.specs.Matrices.{rows_of, vectors_of, IsKernelVector}
 use Rattle.lin_algebra.proofs.SpanLaws.{span_member}

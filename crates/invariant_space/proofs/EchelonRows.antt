@@ -12,27 +12,18 @@ use Rattle.alg_core.specs.Keys.{Key}
 use Rattle.alg_core.specs.KeyOrders.{OrderOn}
 use Rattle.alg_core.specs.Lists.{In}
 use Rattle.alg_core.specs.Vectors.{Vect, vectors, coef_at}
-use Rattle.poly_module.specs.Spans as lists
 use Rattle.poly_module.specs.Parts.{Supp}
 use Rattle.poly_module.specs.Echelons.{Spans, IsEchelon}
-use Rattle.poly_module.proofs.SpanLaws as list_spans
+use Rattle.alg_core.proofs.SpanLaws.{span_map}
 use Rattle.poly_module.proofs.EchelonLists.{Row, AreRows, IsRow}
 use Rattle.poly_module.proofs.EchelonLists as echelons
 use Rattle.poly_module.proofs.Echelon as echelon
 use Rattle.lin_algebra.specs.Vectors.{vectors as columns}
-use Rattle.lin_algebra.specs.Spans.{combination, InSpan}
+use Rattle.alg_core.specs.Spans.{InSpan}
 use Rattle.lin_algebra.specs.Echelons.{PivotRow, rows, IsPivotRow, Precedes, IsReducedEchelon}
 use Rattle.lin_algebra.proofs.SpanLaws.{span_member}
 use Rattle.invariant_space.specs.Equations.{Falls, row_polynomial, coordinates}
 use Rattle.invariant_space.proofs.RowPolynomials.{each_in, falls_at, row_polynomial_linear, row_keys, coef_row, coordinates_row_all, row_coordinates, row_lead}
-
-module _ {K : Type 0} {R : Ring K} {A B : Type 0} (X : Module R A) (Y : Module R B) where
-  -- a linear function takes combinations to combinations, here with the list of their coefficients
-  pub span_of_combination : (f : A → B) → Linear X Y f → (c : ℕ → K) (ws : List A) → lists.InSpan Y (map f ws) (f (combination X c ws))
-  span_of_combination f l c [] = subst (lists.InSpan Y []) (sym (modules.linear_zero X Y f l)) (list_spans.span_zero Y [])
-  span_of_combination f l c (w ∷ ws) =
-      let rest = span_of_combination f l (λ i. c (suc i)) ws in
-      (c 0 ∷ rest.0, ap suc rest.1, ap₂ Y.◌+◌ (sym (l.act (c 0) w)) rest.2 ∙ sym (l.add _ _))
 
 module _ {E : Type 0} (k : FieldOn E) (o : OrderOn Key) where
   -- a reduced echelon list of a set is one of each smaller set that has its members
@@ -141,6 +132,7 @@ module _ {E : Type 0} (k : FieldOn E) (o : OrderOn Key) where
 
         within : (v : Vect k) → U v → Spans k (polynomials l) v
         within v u =
-            let c = (same v (keys v u)).0 u in
-            let is : row_polynomial k ts (combination (columns (scalars k)) c.0 (rows (scalars k) l)) ≡ v = ap (row_polynomial k ts) c.1 ∙ row_coordinates k o ts falls v (keys v u) in
-            subst (Spans k (polynomials l)) is (span_of_combination (columns (scalars k)) (vectors k) (row_polynomial k ts) (row_polynomial_linear k ts) c.0 (rows (scalars k) l))
+            let f : (ℕ → Scalar k) → Vect k = row_polynomial k ts in
+            let ws = rows (scalars k) l in
+            subst (Spans k (polynomials l)) (row_coordinates k o ts falls v (keys v u))
+            (span_map (columns (scalars k)) (vectors k) f (row_polynomial_linear k ts) ws (coordinates k ts v) ((same v (keys v u)).0 u))

@@ -15,11 +15,11 @@ use Rattle.poly_module.specs.Polynomials.{single_vector, one_vector, product}
 use Rattle.poly_module.specs.Products.{product_single, one_vector_single}
 use Rattle.poly_module.specs.MonomialVariables.{variable}
 use Rattle.poly_module.specs.Substitutions.{variable_vector}
-use Rattle.poly_module.proofs.SumSteps.{constant_vector}
+use Rattle.poly_module.specs.SpaceVectors.{IsPolyOf}
 use Rattle.poly_module.proofs.ExponentBounds.{Bounded, bounded_products, fits_keys}
 use Rattle.lin_algebra.specs.declared.matrix.Matrix.{Matrix}
 use Rattle.lin_algebra.specs.Matrices.{entries as cells_of}
-use Rattle.matrix_group.specs.Actions.{IsSquare, act_by, linear_form}
+use Rattle.matrix_group.specs.Actions.{IsSquare, ActsOn, act_by, linear_form}
 use Rattle.matrix_group.proofs.ActionLaws.{act_product, act_variable, act_one}
 use Rattle.matrix_group.proofs.LinearForms.{linear_form_supp, image_inside}
 use Rattle.invariant_space.specs.InvariantSpaces.{IsOfDegree}
@@ -51,7 +51,7 @@ module _ {E : Type 0} (S : SpaceOver E) where
   image_made d v p fits is form = record {
     polynomial = record {
       fits = fits;
-      positions = fits_keys S (λ t. t.0 ≡ 0) (entries (λ m. m) p) fits (λ t c. (subst (Supp S.field (IsOfDegree (length S.weights) d)) (sym is) form t c).position);
+      position = fits_keys S (λ t. t.0 ≡ 0) (entries (λ m. m) p) fits (λ t c. (subst (Supp S.field (IsOfDegree (length S.weights) d)) (sym is) form t c).position);
       is = is;
     };
     form = form;
@@ -82,7 +82,7 @@ module _ {E : Type 0} (S : SpaceOver E) where
       sym (act_one S.field m.rows (cells_of S.field m)) ∙ ap (act_by S.field m) (one_vector_single S.field ∙ ap (single_vector S.field) (sym (key_constant n))) in
       subst (λ d. IsImage S d (act_by S.field m (single_vector S.field (key (0, replicate n 0)))) p) (sym (total_constant n)) (subst (λ v. IsImage S 0 v p) one h)
 
-  pub one_form : Supp S.field (IsOfDegree (length S.weights) 0) (one_vector S.field)
+  one_form : Supp S.field (IsOfDegree (length S.weights) 0) (one_vector S.field)
   one_form =
       let n = length S.weights in
       subst (Supp S.field (IsOfDegree n 0)) (sym (one_vector_single S.field ∙ ap (single_vector S.field) (sym (key_constant n))))
@@ -93,22 +93,23 @@ module _ {E : Type 0} (S : SpaceOver E) where
       length_zeros (suc n) = ap suc (length_zeros n)
 
   -- the terms of 1
-  pub one_made : (p terms new : Terms) (a : List ℕ) (c : E) → c ≡ S.field.one → a ≡ replicate (length S.weights) 0 → terms ≡ [] → new ≡ terms ++ record { coef = c; at = record { pos = 0; mono = a } } ∷ []
-      → Fits S (entries (λ m. m) p) → vec S.field (entries (λ m. m) p) ≡ vec S.field (entries (λ m. m) new) → IsImage S 0 (one_vector S.field) p
-  one_made p terms new a c unit zeros none more fits is =
-      let term : Term E (List ℕ) = record { coef = c; at = record { pos = 0; mono = a } } in
-      image_made 0 (one_vector S.field) p fits (constant_vector S (λ m. m) (length S.weights) p term unit refl zeros (is ∙ ap (λ l. vec S.field (entries (λ m. m) l)) (more ∙ ap (λ l. l ++ term ∷ []) none))) one_form
+  pub one_image : (p : Terms) → IsPolyOf S (λ m. m) (one_vector S.field) p → IsImage S 0 (one_vector S.field) p
+  one_image p h = record { polynomial = h; form = one_form }
 
-  pub square_own : (n : ℕ) (m : Matrix E) → IsSquare S.field n m → IsSquare S.field m.rows m
-  square_own n m h = record { matrix = h.matrix; rows = refl; cols = h.cols ∙ sym h.rows }
+  -- a matrix with a row for each variable acts on the polynomials
+  pub acts_on : (m : Matrix E) → IsSquare S.field (length S.weights) m → ActsOn S m
+  acts_on m h = let count = h.rows in record { square = record { matrix = h.matrix; rows = refl; cols = h.cols ∙ sym h.rows }; within = omega arith }
 
   module _ (m : Matrix E) (square : IsSquare S.field (length S.weights) m) where
     -- the image of a variable is a linear form
-    pub form_image : (i : ℕ) (f : Terms) → Fits S (entries (λ m. m) f) → vec S.field (entries (λ m. m) f) ≡ linear_form S.field m.rows (cells_of S.field m i)
+    pub form_image : (i : ℕ) (f : Terms) → IsPolyOf S (λ m. m) (linear_form S.field m.rows (cells_of S.field m i)) f
         → IsImage S 1 (linear_form S.field m.rows (cells_of S.field m i)) f
     unfolding variable_vector
-    form_image i f fits is = image_made 1 _ f fits is (linear_form_supp S.field (IsOfDegree (length S.weights) 1) m.rows (cells_of S.field m i)
-        (λ j l. let inside : j < length S.weights = omega (arith, square.rows) in supp_single S.field (IsOfDegree (length S.weights) 1) (0, variable j) (variable_degree (length S.weights) j inside)))
+    form_image i f h = record {
+      polynomial = h;
+      form = linear_form_supp S.field (IsOfDegree (length S.weights) 1) m.rows (cells_of S.field m i)
+          (λ j l. let inside : j < length S.weights = omega (arith, square.rows) in supp_single S.field (IsOfDegree (length S.weights) 1) (0, variable j) (variable_degree (length S.weights) j inside));
+    }
 
     act_times : (i : ℕ) (a : List ℕ) → i < length S.weights → length a ≡ length S.weights
         → act_by S.field m (single_vector S.field (key (0, list_product a (unit_exponents (length S.weights) i)))) ≡ product S.field (linear_form S.field m.rows (cells_of S.field m i)) (act_by S.field m (single_vector S.field (key (0, a))))

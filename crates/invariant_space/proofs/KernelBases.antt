@@ -10,7 +10,7 @@ use Rattle.alg_core.specs.Vectors.{Vect}
 use Rattle.lin_algebra.specs.declared.matrix.Matrix.{Matrix}
 use Rattle.lin_algebra.specs.Echelons.{IsReducedEchelon}
 use Rattle.lin_algebra.specs.Matrices.{vectors_of, IsKernelVector}
-use Rattle.lin_algebra.specs.Spans.{InSpan}
+use Rattle.alg_core.specs.Spans.{InSpan}
 use Rattle.lin_algebra.specs.Vectors.{vectors}
 use Rattle.matrix_group.specs.Actions.{IsSquare}
 use Rattle.invariant_space.specs.declared.columns.Column.{Column}

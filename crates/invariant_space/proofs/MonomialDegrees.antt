@@ -12,7 +12,8 @@ use Rattle.poly_module.specs.GreatestExponents.{total, greatest}
 use Rattle.poly_module.specs.MonomialVariables.{variable}
 use Rattle.poly_module.specs.Variables.{exponent_past, length_mon, length_mul}
 use Rattle.poly_module.proofs.ExponentBounds.{Bounded, greatest_mono, within_product}
-use Rattle.matrix_group.proofs.ActionSteps.{mono_set, key_variable}
+use Rattle.poly_module.proofs.ConstantSteps.{mono_set}
+use Rattle.matrix_group.proofs.ActionSteps.{key_variable}
 use Rattle.invariant_space.specs.InvariantSpaces.{IsOfDegree}
 use Rattle.invariant_space.specs.Levels.{unit_exponents}
 

@@ -9,6 +9,7 @@ use Rattle.alg_core.specs.declared.term.Term.{Term}
 use Rattle.alg_core.specs.Spaces.{SpaceOver, entry, entries, Fits, IsPlace}
 use Rattle.alg_core.proofs.VectorLaws.{vec_append, vec_nothing, vec_single, plus_assoc, plus_zero, zero_plus}
 use Rattle.poly_module.specs.Polynomials.{single_vector}
+use Rattle.poly_module.specs.SpaceVectors.{IsPoly, IsPolyOf, IsVectorOf, vector_of}
 use Rattle.poly_module.proofs.CheckedEntries.{all_pushed}
 use Rattle.poly_module.proofs.ExponentBounds.{vec_supp, fits_keys}
 use Rattle.std.proofs.lemmas.List.Elements.{All-push}
@@ -18,7 +19,7 @@ use Rattle.lin_algebra.specs.Vectors.{vector}
 use Rattle.lin_algebra.proofs.CutLaws.{listing, vectors_of_listing}
 use Rattle.invariant_space.proofs.ListLaws.{map_listing}
 use Rattle.invariant_space.specs.declared.columns.Column.{Column}
-use Rattle.invariant_space.specs.Columns.{place_of, key_of, keys_of, IsPolynomialOf, IsColumnPlace}
+use Rattle.invariant_space.specs.Columns.{place_of, key_of, keys_of, IsColumnPlace}
 use Rattle.invariant_space.specs.Equations.{row_polynomial}
 
 module _ {E : Type 0} (k : FieldOn E) where
@@ -87,32 +88,30 @@ module _ {E : Type 0} (S : SpaceOver E) where
       one = vec_single S.field (entry (λ m. m) term) ∙ ap (λ p. (vectors S.field).◌·◌ (scalar S.field x) (single_vector S.field (key p))) (sym same)
 
   -- the sum of the terms
-  pub row_made : (cs : List (Column E)) (w : ℕ → Scalar S.field) (l : ℕ) (terms p : Terms) → length cs ≤ l → Row cs w l terms → Fits S (entries (λ m. m) p) → vec S.field (entries (λ m. m) p) ≡ vec S.field (entries (λ m. m) terms)
-      → IsPolynomialOf S (row_polynomial S.field (keys_of cs) w) p
+  pub row_made : (cs : List (Column E)) (w : ℕ → Scalar S.field) (l : ℕ) (terms p : Terms) → length cs ≤ l → Row cs w l terms → IsVectorOf S (λ m. m) (vector_of S (λ m. m) terms) p
+      → IsPolyOf S (λ m. m) (row_polynomial S.field (keys_of cs) w) p
   unfolding key
-  row_made cs w l terms p past row fits same = record {
-    fits = fits;
-    positions = fits_keys S (λ t. t.0 ≡ 0) (entries (λ m. m) p) fits (subst (λ v. (t : Key) → ¬ (coef_at S.field v t ≡ (scalars S.field).zero) → t.0 ≡ 0) (sym same) (vec_supp S.field (λ t. t.0 ≡ 0) (entries (λ m. m) terms) row.first));
+  row_made cs w l terms p past row made = let same = made.is in record {
+    fits = made.fits;
+    position = fits_keys S (λ t. t.0 ≡ 0) (entries (λ m. m) p) made.fits (subst (λ v. (t : Key) → ¬ (coef_at S.field v t ≡ (scalars S.field).zero) → t.0 ≡ 0) (sym same) (vec_supp S.field (λ t. t.0 ≡ 0) (entries (λ m. m) terms) row.first));
     is = same ∙ row.is ∙ ap (λ l. row_polynomial S.field (keys_of l) w) (take_all l cs past);
   }
 
   -- the polynomials of the first rows
   pub record Rows (cs : List (Column E)) (a : Matrix E) (i : ℕ) (ps : List Terms) : Type 0 where
-    pub fits : All (λ p. Fits S (entries (λ m. m) p)) ps
-    pub first : All (λ p. All (λ e. e.0.0 ≡ 0) (entries (λ m. m) p)) ps
+    pub polynomials : All (IsPoly S (λ m. m)) ps
     pub are : map (λ p. vec S.field (entries (λ m. m) p)) ps ≡ listing (λ j. row_polynomial S.field (keys_of cs) (cells_of S.field a j)) i
 
   pub rows_none : (cs : List (Column E)) (a : Matrix E) (ps : List Terms) → ps ≡ [] → Rows cs a 0 ps
-  rows_none cs a ps none = subst (Rows cs a 0) (sym none) record { fits = λ i d h. absurd (omega arith); first = λ i d h. absurd (omega arith); are = refl }
+  rows_none cs a ps none = subst (Rows cs a 0) (sym none) record { polynomials = λ i d h. absurd (omega arith); are = refl }
 
-  pub rows_more : (cs : List (Column E)) (a : Matrix E) (i : ℕ) (ps new : List Terms) (p : Terms) (row : List E) → row ≡ get_or (rows_of a) i [] → new ≡ ps ++ p ∷ [] → IsPolynomialOf S (row_polynomial S.field (keys_of cs) (vector S.field row)) p → Rows cs a i ps → Rows cs a (i + 1) new
+  pub rows_more : (cs : List (Column E)) (a : Matrix E) (i : ℕ) (ps new : List Terms) (p : Terms) (row : List E) → row ≡ get_or (rows_of a) i [] → new ≡ ps ++ p ∷ [] → IsPolyOf S (λ m. m) (row_polynomial S.field (keys_of cs) (vector S.field row)) p → Rows cs a i ps → Rows cs a (i + 1) new
   rows_more cs a i ps new p row read more is was =
       let next : suc i ≡ i + 1 = omega arith in
       let f : ℕ → Vect S.field = λ j. row_polynomial S.field (keys_of cs) (cells_of S.field a j) in
       let g : Terms → Vect S.field = λ p. vec S.field (entries (λ m. m) p) in
       subst (Rows cs a (i + 1)) (sym more) record {
-        fits = All-push (λ p. Fits S (entries (λ m. m) p)) ps p was.fits is.fits;
-        first = All-push (λ p. All (λ e. e.0.0 ≡ 0) (entries (λ m. m) p)) ps p was.first is.positions;
+        polynomials = All-push (IsPoly S (λ m. m)) ps p was.polynomials (record { fits = is.fits; position = is.position });
         are = map-append g ps (p ∷ []) ∙ ap₂ (λ l v. l ++ v ∷ []) was.are (is.is ∙ ap (λ r. row_polynomial S.field (keys_of cs) (vector S.field r)) read) ∙ ap (listing f) next;
       }
 

@@ -2,18 +2,18 @@
 --
 --   place_of c, key_of c       the place and the key of a column's monomial
 --   places_of cs, keys_of cs   those of all columns
---   IsPolynomialOf S v p       the terms p are those of v over the space S, and have position 0
---   IsImage S d v p            and v is a form of degree d in the variables of S
+--   IsImage S d v p            the terms p are those of v over the space S, and v is a form of degree d in its variables
 --   IsColumnPlace S c          the monomial of c is one of the space
 --   IsColumn S gens c          and the images are its images under the matrices
 use Rattle.std.specs.Prelude.{◌≡◌, ◌<◌, ℕ, List, [], All, length, map, slice_index_or}
 use Rattle.alg_core.specs.Keys.{Place, Key, key}
-use Rattle.alg_core.specs.Vectors.{Vect, vec}
+use Rattle.alg_core.specs.Vectors.{Vect}
 use Rattle.alg_core.specs.declared.term.Term.{Term}
-use Rattle.alg_core.specs.Spaces.{SpaceOver, entries, Fits, IsPlace}
+use Rattle.alg_core.specs.Spaces.{SpaceOver, IsPlace}
 use Rattle.poly_module.specs.GreatestExponents.{total}
 use Rattle.poly_module.specs.Polynomials.{single_vector}
 use Rattle.poly_module.specs.Parts.{Supp}
+use Rattle.poly_module.specs.SpaceVectors.{IsPolyOf}
 use Rattle.lin_algebra.specs.declared.matrix.Matrix.{Matrix}
 use Rattle.matrix_group.specs.Actions.{act_by}
 use Rattle.invariant_space.specs.declared.columns.Column.{Column}
@@ -33,15 +33,9 @@ abbrev pub keys_of : {E : Type 0} → List (Column E) → List Key
 keys_of cs = map key_of cs
 
 module _ {E : Type 0} (S : SpaceOver E) where
-  -- the terms of v, at position 0
-  pub record IsPolynomialOf (v : Vect S.field) (p : List (Term E (List ℕ))) : Type 0 where
-    pub fits : Fits S (entries (λ m. m) p)
-    pub positions : All (λ e. e.0.0 ≡ 0) (entries (λ m. m) p)
-    pub is : vec S.field (entries (λ m. m) p) ≡ v
-
   -- the terms of a form of degree d
   pub record IsImage (d : ℕ) (v : Vect S.field) (p : List (Term E (List ℕ))) : Type 0 where
-    pub polynomial : IsPolynomialOf v p
+    pub polynomial : IsPolyOf S (λ m. m) v p
     pub form : Supp S.field (IsOfDegree (length S.weights) d) v
 
   -- a monomial of the space

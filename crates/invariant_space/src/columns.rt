@@ -1,15 +1,15 @@
 ghost use Rattle.std.specs.Prelude.{◌≡◌, ◌<◌, All, IfOk, length, replicate, slice_set};
 ghost use Rattle.alg_core.specs.ExponentLists.{product};
-ghost use Rattle.alg_core.specs.Spaces.{over, IsPlace};
+ghost use Rattle.alg_core.specs.Spaces.{over};
 ghost use Rattle.poly_module.specs.GreatestExponents.{total};
 ghost use Rattle.matrix_group.specs.Actions.{IsSquare};
-ghost use Rattle.poly_module.specs.Polynomials.{one_vector};
-ghost use Rattle.invariant_space.specs.Columns.{IsColumn, IsImage};
+ghost use Rattle.poly_module.specs.SpaceVectors.{HasPolynomials};
+ghost use Rattle.invariant_space.specs.Columns.{IsColumn};
 
-use alg_core::{Field, Memory, ModTerm, Mono, Monomial, Space, Term, TermOrder};
+use alg_core::{Field, Memory, ModTerm, Mono, Monomial, Space, TermOrder};
 use lin_algebra::Matrix;
 use matrix_group::row_form;
-use poly_module::{Poly, make, mul};
+use poly_module::{Poly, mul, one};
 use std::alloc::Global;
 
 /// A monomial, and its images under the generators: what a column of the equations is made from.
@@ -30,39 +30,20 @@ fn variable(alloc: Global, variables: usize, i: usize) -> Result<Mono, Memory>
     Ok(mono)
 }
 
-/// The polynomial 1, whose monomial has these exponents.
-fn constant_one<F: Field, O: TermOrder>(
-    alloc: Global,
-    space: &Space<F, O>,
-    zeros: &[u32],
-) -> Result<Poly<F::Elem>, Memory>
-    requires constants { IsPlace (over F.field O.order space.now) (0, zeros.now) }
-    requires zeros { zeros.now ≡ replicate (length space.now.grading.weights.items) 0 }
-    ensures one { let S = over F.field O.order space.now in IfOk result (IsImage S 0 (one_vector S.field)) }
-{
-    let mono = Mono::from_exps(alloc, zeros)?;
-    let at = ModTerm { pos: 0, mono };
-    let coef = space.field.one();
-    let mut terms = Vec::new(alloc);
-    terms.push(Term { coef, at })?;
-    let one = make(alloc, space, terms.as_slice())?;
-    Ok(one)
-}
-
 /// The monomial 1.
 pub(crate) fn constant<F: Field, O: TermOrder>(
     alloc: Global,
     space: &Space<F, O>,
     gens: &[Matrix<F::Elem>],
 ) -> Result<Column<F::Elem>, Memory>
-    requires constants { IsPlace (over F.field O.order space.now) (0, replicate (length space.now.grading.weights.items) 0) }
+    requires polynomials { HasPolynomials (over F.field O.order space.now) }
     ensures column { let S = over F.field O.order space.now in IfOk result (IsColumn S gens.now) }
     ensures mono { IfOk result (λ c. c.at.mono ≡ replicate (length space.now.grading.weights.items) 0) }
 {
     let zeros = vec![in alloc; 0; space.grading.weights.len()]?;
     let mut images = Vec::new(alloc);
     for _generator in gens {
-        images.push(constant_one(alloc, space, zeros.as_slice())?)?;
+        images.push(one(alloc, space)?)?;
     }
     let mono = Mono::from_exps(alloc, zeros.as_slice())?;
     let at = ModTerm { pos: 0, mono };
@@ -78,7 +59,7 @@ pub(crate) fn times<F: Field, O: TermOrder>(
     column: &Column<F::Elem>,
     i: usize,
 ) -> Result<Column<F::Elem>, Memory>
-    requires constants { IsPlace (over F.field O.order space.now) (0, replicate (length space.now.grading.weights.items) 0) }
+    requires polynomials { HasPolynomials (over F.field O.order space.now) }
     requires square { All (IsSquare (F.field space.now.field) (length space.now.grading.weights.items)) gens.now }
     requires column { IsColumn (over F.field O.order space.now) gens.now column.now }
     requires degree { total column.now.at.mono < 12288 }

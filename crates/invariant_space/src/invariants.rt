@@ -1,7 +1,7 @@
-ghost use Rattle.std.specs.Prelude.{◌≡◌, ◌<◌, ◌≤◌, ℕ, All, Err, IfOk, length, map, replicate};
+ghost use Rattle.std.specs.Prelude.{◌≡◌, ◌<◌, ◌≤◌, ℕ, All, Err, IfOk, length};
 ghost use Rattle.alg_core.specs.Binomials.{monomials_of_degree};
-ghost use Rattle.alg_core.specs.Spaces.{over, entries, Fits, IsPlace};
-ghost use Rattle.alg_core.specs.Vectors.{vec};
+ghost use Rattle.alg_core.specs.Spaces.{over};
+ghost use Rattle.poly_module.specs.SpaceVectors.{vectors_of, ArePolys, HasPolynomials};
 ghost use Rattle.matrix_group.specs.Actions.{IsSquare};
 ghost use Rattle.invariant_space.specs.InvariantSpaces.{IsEchelonBasis};
 
@@ -29,15 +29,14 @@ pub fn basis<F: Field, O: TermOrder>(
     requires few { length space.now.grading.weights.items ≤ 12 }
     requires degree { d ≤ 12288 }
     requires square { All (IsSquare (F.field space.now.field) (length space.now.grading.weights.items)) gens.now }
-    requires constants { IsPlace (over F.field O.order space.now) (0, replicate (length space.now.grading.weights.items) 0) }
+    requires polynomials { HasPolynomials (over F.field O.order space.now) }
     ensures bound { (degree count : ℕ) → result ≡ Err (SpaceFault.TermBound degree count)
         → (degree ≡ d) × (count ≡ monomials_of_degree (length space.now.grading.weights.items) d) × (max_terms < count) }
     ensures within { let count = monomials_of_degree (length space.now.grading.weights.items) d in
         max_terms < count → result ≡ Err (SpaceFault.TermBound d count) }
-    ensures fits { let S = over F.field O.order space.now in IfOk result (λ b. All (λ p. Fits S (entries (λ m. m) p)) b.items) }
-    ensures polynomials { IfOk result (λ b. All (λ p. All (λ e. e.0.0 ≡ 0) (entries (λ m. m) p)) b.items) }
+    ensures polynomials { IfOk result (λ b. ArePolys (over F.field O.order space.now) (λ m. m) b.items) }
     ensures echelon { let S = over F.field O.order space.now in
-        IfOk result (λ b. IsEchelonBasis S gens.now d (map (λ p. vec S.field (entries (λ m. m) p)) b.items)) }
+        IfOk result (λ b. IsEchelonBasis S gens.now d (vectors_of S (λ m. m) b.items)) }
 {
     let count = monomial_count(space.grading.weights.len() as u32, d);
     if count > u128::from(max_terms) {
@@ -56,11 +55,10 @@ fn whole_basis<F: Field, O: TermOrder>(
 ) -> Result<Vec<Poly<F::Elem>>, Memory>
     requires degree { d ≤ 12288 }
     requires square { All (IsSquare (F.field space.now.field) (length space.now.grading.weights.items)) gens.now }
-    requires constants { IsPlace (over F.field O.order space.now) (0, replicate (length space.now.grading.weights.items) 0) }
-    ensures fits { let S = over F.field O.order space.now in IfOk result (λ b. All (λ p. Fits S (entries (λ m. m) p)) b.items) }
-    ensures polynomials { IfOk result (λ b. All (λ p. All (λ e. e.0.0 ≡ 0) (entries (λ m. m) p)) b.items) }
+    requires polynomials { HasPolynomials (over F.field O.order space.now) }
+    ensures polynomials { IfOk result (λ b. ArePolys (over F.field O.order space.now) (λ m. m) b.items) }
     ensures echelon { let S = over F.field O.order space.now in
-        IfOk result (λ b. IsEchelonBasis S gens.now d (map (λ p. vec S.field (entries (λ m. m) p)) b.items)) }
+        IfOk result (λ b. IsEchelonBasis S gens.now d (vectors_of S (λ m. m) b.items)) }
 {
     let columns = sorted(alloc, space, gens, d)?;
     let equations = equations(alloc, space, gens, columns.as_slice())?;

@@ -1,7 +1,8 @@
-ghost use Rattle.std.specs.Prelude.{◌≡◌, ◌<◌, ◌≤◌, ◌++◌, All, IfOk, OnOk, length, map, replicate};
+ghost use Rattle.std.specs.Prelude.{◌≡◌, ◌<◌, ◌≤◌, ◌++◌, All, IfOk, OnOk, length, map};
 ghost use Rattle.std.specs.List.{flat_map};
-ghost use Rattle.alg_core.specs.Spaces.{over, IsPlace};
+ghost use Rattle.alg_core.specs.Spaces.{over};
 ghost use Rattle.poly_module.specs.GreatestExponents.{total};
+ghost use Rattle.poly_module.specs.SpaceVectors.{HasPolynomials};
 ghost use Rattle.matrix_group.specs.Actions.{IsSquare};
 ghost use Rattle.invariant_space.specs.Columns.{IsColumn};
 ghost use Rattle.invariant_space.specs.Levels.{reach, raised, IsLevel};
@@ -31,7 +32,7 @@ fn push_products<F: Field, O: TermOrder>(
     column: &Column<F::Elem>,
     above: &mut Vec<Column<F::Elem>>,
 ) -> Result<(), Memory>
-    requires constants { IsPlace (over F.field O.order space.now) (0, replicate (length space.now.grading.weights.items) 0) }
+    requires polynomials { HasPolynomials (over F.field O.order space.now) }
     requires square { All (IsSquare (F.field space.now.field) (length space.now.grading.weights.items)) gens.now }
     requires column { IsColumn (over F.field O.order space.now) gens.now column.now }
     requires degree { total column.now.at.mono < 12288 }
@@ -52,7 +53,7 @@ fn next<F: Field, O: TermOrder>(
     gens: &[Matrix<F::Elem>],
     columns: &[Column<F::Elem>],
 ) -> Result<Vec<Column<F::Elem>>, Memory>
-    requires constants { IsPlace (over F.field O.order space.now) (0, replicate (length space.now.grading.weights.items) 0) }
+    requires polynomials { HasPolynomials (over F.field O.order space.now) }
     requires square { All (IsSquare (F.field space.now.field) (length space.now.grading.weights.items)) gens.now }
     requires columns { All (IsColumn (over F.field O.order space.now) gens.now) columns.now }
     requires degree { All (λ c. total c.at.mono < 12288) columns.now }
@@ -73,7 +74,7 @@ pub(crate) fn level<F: Field, O: TermOrder>(
     gens: &[Matrix<F::Elem>],
     d: u32,
 ) -> Result<Vec<Column<F::Elem>>, Memory>
-    requires constants { IsPlace (over F.field O.order space.now) (0, replicate (length space.now.grading.weights.items) 0) }
+    requires polynomials { HasPolynomials (over F.field O.order space.now) }
     requires square { All (IsSquare (F.field space.now.field) (length space.now.grading.weights.items)) gens.now }
     requires degree { d ≤ 12288 }
     ensures columns { let S = over F.field O.order space.now in IfOk result (λ cs. All (IsColumn S gens.now) cs.items) }

@@ -1,10 +1,10 @@
-ghost use Rattle.std.specs.Prelude.{◌≡◌, ◌*◌, ◌<◌, [], All, IfOk, length, map, slice_index_or};
-ghost use Rattle.alg_core.specs.Fields.{Has};
-ghost use Rattle.alg_core.specs.Spaces.{over, entries, Fits, IsPlace};
-ghost use Rattle.alg_core.specs.Vectors.{vec};
-ghost use Rattle.lin_algebra.specs.Matrices.{IsMatrix, rows_of, vectors_of};
+ghost use Rattle.std.specs.Prelude.{◌≡◌, All, IfOk, length, map};
+ghost use Rattle.alg_core.specs.Spaces.{over};
+ghost use Rattle.poly_module.specs.SpaceVectors.{vectors_of, ArePolys, IsPolyOf};
+ghost use Rattle.lin_algebra.specs.Matrices.{IsMatrix};
+ghost use Rattle.lin_algebra.specs.Matrices.{vectors_of as vectors_of_rows};
 ghost use Rattle.lin_algebra.specs.Vectors.{vector, IsRow};
-ghost use Rattle.invariant_space.specs.Columns.{IsColumnPlace, keys_of, IsPolynomialOf};
+ghost use Rattle.invariant_space.specs.Columns.{IsColumnPlace, keys_of};
 ghost use Rattle.invariant_space.specs.Equations.{row_polynomial};
 
 use crate::columns::Column;
@@ -12,17 +12,6 @@ use alg_core::{Field, Memory, ModTerm, Monomial, Space, Term, TermOrder, is_zero
 use lin_algebra::Matrix;
 use poly_module::{Poly, make};
 use std::alloc::Global;
-
-/// The cells of a row.
-fn matrix_row<E>(m: &Matrix<E>, i: usize) -> &[E]
-    requires whole { length m.now.cells.items ≡ m.now.rows * m.now.cols }
-    requires row { i < m.now.rows }
-    ensures is { result.now ≡ slice_index_or (rows_of m.now) i [] }
-    ensures count { length result.now ≡ m.now.cols }
-{
-    let cols = m.cols as usize;
-    &m.cells[i * cols..i * cols + cols]
-}
 
 /// The polynomial with these coefficients at the monomials of the columns.
 fn polynomial<F: Field, O: TermOrder>(
@@ -33,7 +22,7 @@ fn polynomial<F: Field, O: TermOrder>(
 ) -> Result<Poly<F::Elem>, Memory>
     requires places { All (IsColumnPlace (over F.field O.order space.now)) columns.now }
     requires row { IsRow (F.field space.now.field) (length columns.now) row.now }
-    ensures polynomial { let S = over F.field O.order space.now in IfOk result (IsPolynomialOf S (row_polynomial S.field (keys_of columns.now) (vector S.field row.now))) }
+    ensures polynomial { let S = over F.field O.order space.now in IfOk result (IsPolyOf S (λ m. m) (row_polynomial S.field (keys_of columns.now) (vector S.field row.now))) }
 {
     let mut terms = Vec::new(alloc);
     for l in 0..columns.len() {
@@ -58,14 +47,13 @@ pub(crate) fn polynomials<F: Field, O: TermOrder>(
     requires places { All (IsColumnPlace (over F.field O.order space.now)) columns.now }
     requires matrix { IsMatrix (F.field space.now.field) a.now }
     requires columns { a.now.cols ≡ length columns.now }
-    ensures fits { let S = over F.field O.order space.now in IfOk result (λ ps. All (λ p. Fits S (entries (λ m. m) p)) ps.items) }
-    ensures polynomials { IfOk result (λ ps. All (λ p. All (λ e. e.0.0 ≡ 0) (entries (λ m. m) p)) ps.items) }
-    ensures are { let k = F.field space.now.field in
-        IfOk result (λ ps. map (λ p. vec k (entries (λ m. m) p)) ps.items ≡ map (row_polynomial k (keys_of columns.now)) (vectors_of k a.now)) }
+    ensures polynomials { IfOk result (λ ps. ArePolys (over F.field O.order space.now) (λ m. m) ps.items) }
+    ensures are { let S = over F.field O.order space.now in IfOk result (λ ps.
+        vectors_of S (λ m. m) ps.items ≡ map (row_polynomial S.field (keys_of columns.now)) (vectors_of_rows S.field a.now)) }
 {
     let mut polynomials = Vec::new(alloc);
     for i in 0..a.rows as usize {
-        polynomials.push(polynomial(alloc, space, columns, matrix_row(a, i))?)?;
+        polynomials.push(polynomial(alloc, space, columns, a.row(i))?)?;
     }
     Ok(polynomials)
 }

@@ -1,7 +1,8 @@
-ghost use Rattle.std.specs.Prelude.{◌≡◌, ◌≤◌, All, IfOk, IfNone, IfSome, OnOk, length, replicate};
+ghost use Rattle.std.specs.Prelude.{◌≡◌, ◌≤◌, All, IfOk, IfNone, IfSome, OnOk, length};
 ghost use Rattle.std.specs.List.{insert};
 ghost use Rattle.alg_core.specs.SpaceOrder.{key_order};
 ghost use Rattle.alg_core.specs.Spaces.{over, IsPlace};
+ghost use Rattle.poly_module.specs.SpaceVectors.{HasPolynomials};
 ghost use Rattle.matrix_group.specs.Actions.{IsSquare};
 ghost use Rattle.invariant_space.specs.Columns.{IsColumn, IsColumnPlace, keys_of};
 ghost use Rattle.invariant_space.specs.Equations.{IsMonomialList};
@@ -61,7 +62,7 @@ pub(crate) fn sorted<F: Field, O: TermOrder>(
     gens: &[Matrix<F::Elem>],
     d: u32,
 ) -> Result<Vec<Column<F::Elem>>, Memory>
-    requires constants { IsPlace (over F.field O.order space.now) (0, replicate (length space.now.grading.weights.items) 0) }
+    requires polynomials { HasPolynomials (over F.field O.order space.now) }
     requires square { All (IsSquare (F.field space.now.field) (length space.now.grading.weights.items)) gens.now }
     requires degree { d ≤ 12288 }
     ensures columns { let S = over F.field O.order space.now in IfOk result (λ cs. All (IsColumn S gens.now) cs.items) }

@@ -4,11 +4,14 @@ use Rattle.std.specs.List.{insert, AllByRecursion as Each}
 use Rattle.std.specs.Vec.{with_items}
 use Rattle.std.proofs.lemmas.List.{with_items_is, drop_more, drop_all, get_or_read, get_or-map, map-set, map-append, take-map, drop-map, length-map, ext_get_or, get_or_default, length-take-le, get_or-take}
 use Rattle.std.proofs.lemmas.List.Elements.{All-set, All-from_recursion, recursion_from_All}
-use Rattle.lin_algebra.proofs.EachLaws.{In, Each_map, Each_of_map}
+use Rattle.alg_core.specs.RingLaws as rings
+use Rattle.alg_core.specs.Lists.{In}
+use Rattle.lin_algebra.proofs.EachLaws.{Each_at, Each_map, Each_of_map}
+use Rattle.lin_algebra.proofs.EchelonLaws.{each_pivot_row}
 use Rattle.alg_core.specs.Fields.{FieldOn, Has, Scalar, scalars, scalar, scalar_zero, scalar_one, scalar_mul, scalar_neg}
 use Rattle.lin_algebra.specs.declared.elimination.BasisRow.{BasisRow}
 use Rattle.lin_algebra.specs.Vectors.{vectors, vector, IsRow}
-use Rattle.lin_algebra.specs.Echelons.{PivotRow}
+use Rattle.lin_algebra.specs.Echelons.{PivotRow, IsPivotRow}
 use Rattle.lin_algebra.specs.Bases.{cleared_at, cleared, reduced_by, basis_rows, rows_of_basis, IsBasis, IsMonicMultiple, IsPlacedIn, IsPutIn}
 use Rattle.lin_algebra.proofs.RowLaws.{Written, written_more}
 
@@ -154,3 +157,13 @@ module _ {E : Type 0} (k : FieldOn E) where
   in_basis_rows [] i x inside read = absurd (omega arith)
   in_basis_rows (e ∷ l) zero x inside read = inl (ap row_of read)
   in_basis_rows (e ∷ l) (suc i) x inside read = inr (in_basis_rows l i x (omega arith) read)
+
+  -- before its pivot a row of the list is 0
+  pub zero_before_pivot : (n : ℕ) (basis : List (BasisRow E)) (i : ℕ) (x : BasisRow E) → IsBasis k n basis → i < length basis → x ≡ get_or basis i x
+      → (j : ℕ) → j < x.pivot → vector k x.entries.items j ≡ (scalars k).zero
+  zero_before_pivot n basis i x h inside read =
+      (Each_at (IsPivotRow (scalars k)) (basis_rows k basis) (each_pivot_row (scalars k) (basis_rows k basis) h.reduced) (row_of x) (in_basis_rows basis i x inside (sym read))).before
+
+  -- so is a multiple of a row that is
+  pub monic_before : (p : ℕ) (w u : ℕ → Scalar k) → IsMonicMultiple (scalars k) p w u → ((j : ℕ) → j < p → w j ≡ (scalars k).zero) → (j : ℕ) → j < p → u j ≡ (scalars k).zero
+  monic_before p w u monic before j h = ap (λ x. x j) monic.multiple ∙ ap ((scalars k).◌*◌ monic.factor) (before j h) ∙ rings.mul_zero (scalars k) monic.factor

@@ -4,10 +4,11 @@ use Rattle.std.specs.List.{AllByRecursion as Each}
 use Rattle.alg_core.specs.Rings.{Ring}
 use Rattle.alg_core.specs.RingLaws as rings
 use Rattle.lin_algebra.specs.Vectors.{vectors}
-use Rattle.lin_algebra.specs.Spans.{InSpan, SameSpan}
+use Rattle.alg_core.specs.Spans.{InSpan, SameSpan}
 use Rattle.lin_algebra.specs.Echelons.{PivotRow, rows, IsPivotRow, Precedes, IsReducedEchelon}
 use Rattle.lin_algebra.proofs.EachLaws.{Each_weaker, Each_both, Each_append, Each_append_left, Each_append_right, Each_map, three_ways}
-use Rattle.lin_algebra.proofs.SpanLaws.{span_member, span_add, span_act, span_head, span_tail, span_within, SameSpan_from}
+use Rattle.alg_core.proofs.SpanLaws.{span_add, span_act, span_head, span_tail}
+use Rattle.lin_algebra.proofs.SpanLaws.{span_member, span_within, SameSpan_from}
 use Rattle.lin_algebra.specs.Bases.{cleared}
 
 module _ {K : Type 0} (R : Ring K) where

@@ -1,14 +1,10 @@
--- What holds of each element of a list, and membership.
+-- What holds of each element of a list.
 use Rattle.std.proofs.Common.{◌≡◌, ℕ, ◌<◌, ◌≤◌, ◌⊎◌, inl, inr, List, [], ◌∷◌, ◌++◌, map, arith, subst}
 use Rattle.std.specs.List.{AllByRecursion as Each}
 use Rattle.std.proofs.lemmas.Bool.{cases_lt}
+use Rattle.alg_core.specs.Lists.{In}
 
 module _ {X : Type 0} where
-  -- x is an element of the list
-  abbrev pub In : X → List X → Type 0
-  In x [] = ⊥
-  In x (y ∷ l) = (y ≡ x) ⊎ In x l
-
   pub Each_at : (P : X → Type 0) (l : List X) → Each P l → (x : X) → In x l → P x
   Each_at P [] h x i = absurd i
   Each_at P (y ∷ l) h x (inl e) = subst P e h.0

@@ -5,10 +5,12 @@ use Rattle.alg_core.specs.Rings.{Ring}
 use Rattle.alg_core.specs.RingLaws as rings
 use Rattle.alg_core.specs.ModuleLaws as modules
 use Rattle.lin_algebra.specs.Vectors.{vectors}
-use Rattle.lin_algebra.specs.Spans.{InSpan, SameSpan}
+use Rattle.alg_core.specs.Spans.{InSpan, SameSpan}
 use Rattle.lin_algebra.specs.Echelons.{PivotRow, rows, IsPivotRow, Precedes, IsReducedEchelon}
-use Rattle.lin_algebra.proofs.EachLaws.{In, Each_at, Each_from, Each_weaker, Each_both, Each_map, Each_of_map, three_ways}
-use Rattle.lin_algebra.proofs.SpanLaws.{span_ind, span_member, span_add, span_act}
+use Rattle.alg_core.specs.Lists.{In}
+use Rattle.lin_algebra.proofs.EachLaws.{Each_at, Each_from, Each_weaker, Each_both, Each_map, Each_of_map, three_ways}
+use Rattle.alg_core.proofs.SpanLaws.{span_add, span_act}
+use Rattle.lin_algebra.proofs.SpanLaws.{span_ind, span_member}
 use native.Mathlib.Decide.{ℕ_discrete}
 
 module _ {K : Type 0} (R : Ring K) where

@@ -7,7 +7,7 @@ use Rattle.alg_core.specs.Fields.{FieldOn, Has, Scalar, scalars, scalar}
 use Rattle.lin_algebra.specs.declared.elimination.BasisRow.{BasisRow}
 use Rattle.lin_algebra.specs.declared.matrix.Matrix.{Matrix}
 use Rattle.lin_algebra.specs.Vectors.{vectors, vector, unit, IsRow}
-use Rattle.lin_algebra.specs.Spans.{SameSpan}
+use Rattle.alg_core.specs.Spans.{SameSpan}
 use Rattle.lin_algebra.specs.Matrices.{rows_of, joined, beside, entries, IsMatrix, IsInverse}
 use Rattle.lin_algebra.specs.Echelons.{PivotRow}
 use Rattle.lin_algebra.specs.Bases.{basis_rows, rows_of_basis}

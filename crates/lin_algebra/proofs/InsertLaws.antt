@@ -7,11 +7,12 @@ use Rattle.alg_core.specs.Rings.{Ring, Module}
 use Rattle.alg_core.specs.RingLaws as rings
 use Rattle.alg_core.specs.ModuleLaws as modules
 use Rattle.lin_algebra.specs.Vectors.{vectors}
-use Rattle.lin_algebra.specs.Spans.{InSpan, SameSpan}
+use Rattle.alg_core.specs.Spans.{InSpan, SameSpan}
 use Rattle.lin_algebra.specs.Echelons.{PivotRow, rows, Precedes, IsReducedEchelon}
 use Rattle.lin_algebra.specs.Bases.{cleared_at, cleared, reduced_by, IsMonicMultiple, IsPutIn}
 use Rattle.lin_algebra.proofs.EachLaws.{Each_weaker, Each_both, Each_append, Each_append_left, Each_append_right, Each_map}
-use Rattle.lin_algebra.proofs.SpanLaws.{span_zero, span_add, span_act, span_head, span_tail, span_member, span_append_left, span_append_right, SameSpan_from}
+use Rattle.alg_core.proofs.SpanLaws.{span_zero, span_add, span_act, span_head, span_tail}
+use Rattle.lin_algebra.proofs.SpanLaws.{span_member, span_append_left, span_append_right, SameSpan_from}
 use Rattle.lin_algebra.proofs.EchelonLaws.{zero_at_earlier}
 use Rattle.lin_algebra.proofs.ChangeLaws.{IsNew, cleared_zero, IsReducedEchelon_cleared, IsReducedEchelon_insert, span_cleared}
 

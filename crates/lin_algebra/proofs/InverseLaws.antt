@@ -6,10 +6,11 @@ use native.Mathlib.Decide.{ℕ_discrete}
 use Rattle.alg_core.specs.Rings.{Ring}
 use Rattle.alg_core.specs.ModuleLaws as modules
 use Rattle.lin_algebra.specs.Vectors.{vectors, dot, unit}
-use Rattle.lin_algebra.specs.Spans.{InSpan, SameSpan}
+use Rattle.alg_core.specs.Spans.{InSpan, SameSpan}
 use Rattle.lin_algebra.specs.Matrices.{beside, product, IsIdentity, IsInverse}
 use Rattle.lin_algebra.specs.Echelons.{PivotRow, rows, IsPivotRow, Precedes, IsReducedEchelon}
-use Rattle.lin_algebra.proofs.EachLaws.{In, Each_at}
+use Rattle.alg_core.specs.Lists.{In}
+use Rattle.lin_algebra.proofs.EachLaws.{Each_at}
 use Rattle.lin_algebra.proofs.SpanLaws.{span_ind, SameSpan_from}
 use Rattle.lin_algebra.proofs.DotLaws.{dot_same, dot_zero, dot_add, dot_act, dot_comm, dot_unit, dot_unit_past, unit_at, unit_other, unit_comm}
 use Rattle.lin_algebra.proofs.EchelonLaws.{by_pivots, by_pivots_span, each_pivot_row, zero_at_others, reduced_unique}

@@ -6,9 +6,10 @@ use Rattle.alg_core.specs.Rings.{Ring}
 use Rattle.alg_core.specs.RingLaws as rings
 use Rattle.alg_core.specs.ModuleLaws as modules
 use Rattle.lin_algebra.specs.Vectors.{vectors, dot, unit}
-use Rattle.lin_algebra.specs.Spans.{InSpan}
+use Rattle.alg_core.specs.Spans.{InSpan}
 use Rattle.lin_algebra.specs.Echelons.{PivotRow, rows, IsReducedEchelon}
-use Rattle.lin_algebra.proofs.SpanLaws.{span_ind, span_zero, span_add, span_act}
+use Rattle.alg_core.proofs.SpanLaws.{span_zero, span_add, span_act}
+use Rattle.lin_algebra.proofs.SpanLaws.{span_ind}
 use Rattle.lin_algebra.proofs.DotLaws.{dot_zero, dot_add, dot_act, dot_comm, dot_add_right, dot_act_right, dot_unit, dot_unit_past, dot_same, unit_comm}
 use Rattle.lin_algebra.proofs.EchelonLaws.{by_pivots, by_pivots_span}
 use Rattle.lin_algebra.specs.Kernels.{particular, kernel_vector}

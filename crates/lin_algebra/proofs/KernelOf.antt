@@ -7,12 +7,13 @@ use Rattle.alg_core.specs.RingLaws as rings
 use Rattle.alg_core.specs.Fields.{FieldOn, Scalar, scalars}
 use Rattle.lin_algebra.specs.declared.matrix.Matrix.{Matrix}
 use Rattle.lin_algebra.specs.Vectors.{vectors, vector, dot, IsRow}
-use Rattle.lin_algebra.specs.Spans.{InSpan, SameSpan}
+use Rattle.alg_core.specs.Spans.{InSpan, SameSpan}
 use Rattle.lin_algebra.specs.Matrices.{rows_of, entries, vectors_of, IsMatrix, IsKernelVector}
 use Rattle.lin_algebra.specs.Echelons.{PivotRow, rows, IsReducedEchelon}
 use Rattle.lin_algebra.specs.Kernels.{kernel_vector}
 use Rattle.lin_algebra.proofs.EachLaws.{Each_map, Each_of_map, Each_weaker, Each_append}
-use Rattle.lin_algebra.proofs.SpanLaws.{span_ind, span_head, span_member, span_append_left, span_append_right}
+use Rattle.alg_core.proofs.SpanLaws.{span_head}
+use Rattle.lin_algebra.proofs.SpanLaws.{span_ind, span_member, span_append_left, span_append_right}
 use Rattle.lin_algebra.proofs.RowLaws.{vector_past}
 use Rattle.lin_algebra.proofs.CutLaws.{listing, vectors_of_listing, IsRow_rows_of}
 use Rattle.lin_algebra.proofs.KernelLaws.{dot_kernel_vector, kernel_combination, span_total, dot_span, dot_span_right}

@@ -16,3 +16,4 @@ pub mod SolutionLaws
 pub mod InverseLaws
 pub mod HalfLaws
 pub mod UniqueLaws
+pub mod GreedyColumns

@@ -18,6 +18,10 @@ module _ {E : Type 0} (z : E) (F : ℕ → E → E) (old : List E) where
   pub written_none : Written z F old old 0
   written_none = record { done = λ j h. absurd (omega arith); rest = λ j h. refl }
 
+  -- where F keeps the first i entries, they are written
+  pub written_same : (i : ℕ) → ((j : ℕ) → j < i → F j (get_or old j z) ≡ get_or old j z) → Written z F old old i
+  written_same i same = record { done = λ j h. sym (same j h); rest = λ j h. refl }
+
   pub written_more : (row : List E) (i : ℕ) (x y : E) → i < length row → Written z F old row i → x ≡ get_or row i x → y ≡ F i x → Written z F old (set row i y) (i + 1)
   written_more row i x y inside w read made = record { done = λ j h. done j h (ℕ_discrete j i); rest = λ j h. rest j h }
     where
@@ -34,6 +38,10 @@ module _ {E : Type 0} (z : E) (F : ℕ → E → E) (old : List E) where
 module _ {E : Type 0} (k : FieldOn E) where
   pub same_vector : {K : Type 0} (u v : ℕ → K) → ((j : ℕ) → u j ≡ v j) → u ≡ v
   same_vector u v h i j = h j i
+
+  -- a value is 0 where its scalar is
+  pub zero_of_scalar : (a : E) → Has k a → scalar k a ≡ (scalars k).zero → a ≡ k.zero
+  zero_of_scalar a h e = scalar_injective k a k.zero h k.has_zero (e ∙ sym (scalar_zero k))
 
   -- past its end a row is 0
   pub vector_past : (xs : List E) (j : ℕ) → length xs ≤ j → vector k xs j ≡ (scalars k).zero
@@ -62,6 +70,22 @@ module _ {E : Type 0} (k : FieldOn E) where
           ap (scalar k) (h j b) ∙ scalar_add k _ _ there (k.has_mul _ _ has_c by_there) ∙ ap ((scalars k).◌+◌ (vector k old j)) (scalar_mul k _ _ has_c by_there)
       at j (inr b) = vector_past new j (omega arith) ∙ sym (ap₂ (scalars k).◌+◌ (vector_past old j b) (ap ((scalars k).◌*◌ (scalar k c)) (vector_past by j (omega arith)) ∙ rings.mul_zero (scalars k) _) ∙ (scalars k).add_zero _)
 
+  -- a multiple of a row adds nothing at a column where that row is 0
+  pub nothing_added : (row by : List E) (c : E) (j : ℕ) → Has k c → All (Has k) row → All (Has k) by → vector k by j ≡ (scalars k).zero
+      → k.add (get_or row j k.zero) (k.mul c (get_or by j k.zero)) ≡ get_or row j k.zero
+  nothing_added row by c j has_c has_row has_by none =
+      ap (k.add (get_or row j k.zero)) nothing ∙ k.add_zero _ (has_or row has_row)
+    where
+      has_or : (xs : List E) → All (Has k) xs → Has k (get_or xs j k.zero)
+      has_or xs h = at (cases_lt j (length xs))
+        where
+          at : (j < length xs) ⊎ (length xs ≤ j) → Has k (get_or xs j k.zero)
+          at (inl b) = h j k.zero b
+          at (inr b) = ap k.has (get_or_past xs j k.zero b) ∙ k.has_zero
+
+      nothing : k.mul c (get_or by j k.zero) ≡ k.zero
+      nothing = zero_of_scalar _ (k.has_mul _ _ has_c (has_or by has_by)) (scalar_mul k _ _ has_c (has_or by has_by) ∙ ap ((scalars k).◌*◌ (scalar k c)) none ∙ rings.mul_zero (scalars k) _)
+
   -- c times each entry
   pub vector_multiple : (old new : List E) (c : E) → length new ≡ length old → Has k c → All (Has k) old
       → ((j : ℕ) → j < length old → get_or new j k.zero ≡ k.mul c (get_or old j k.zero))
@@ -88,7 +112,3 @@ module _ {E : Type 0} (k : FieldOn E) where
       at i (no n) =
           ap (scalar k) (get_or-set_other xs j i (k.add x c) k.zero (λ e. n (sym e)))
           ∙ sym (ap ((scalars k).◌+◌ (vector k xs i)) (ap ((scalars k).◌*◌ (scalar k c)) (unit_other (scalars k) j i n) ∙ rings.mul_zero (scalars k) _) ∙ (scalars k).add_zero _)
-
-  -- a value is 0 where its scalar is
-  pub zero_of_scalar : (a : E) → Has k a → scalar k a ≡ (scalars k).zero → a ≡ k.zero
-  zero_of_scalar a h e = scalar_injective k a k.zero h k.has_zero (e ∙ sym (scalar_zero k))

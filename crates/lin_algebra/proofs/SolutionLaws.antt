@@ -5,11 +5,12 @@ use native.Mathlib.Decide.{ℕ_discrete}
 use Rattle.alg_core.specs.Rings.{Ring}
 use Rattle.alg_core.specs.RingLaws as rings
 use Rattle.lin_algebra.specs.Vectors.{vectors, dot}
-use Rattle.lin_algebra.specs.Spans.{InSpan, SameSpan}
+use Rattle.alg_core.specs.Spans.{InSpan, SameSpan}
 use Rattle.lin_algebra.specs.Matrices.{beside}
 use Rattle.lin_algebra.specs.Echelons.{PivotRow, rows, IsPivotRow, IsReducedEchelon}
 use Rattle.lin_algebra.specs.Kernels.{particular}
-use Rattle.lin_algebra.proofs.EachLaws.{In, Each_at, Each_of_map}
+use Rattle.alg_core.specs.Lists.{In}
+use Rattle.lin_algebra.proofs.EachLaws.{Each_at, Each_of_map}
 use Rattle.lin_algebra.proofs.SpanLaws.{span_ind, span_member}
 use Rattle.lin_algebra.proofs.DotLaws.{dot_same, dot_zero, dot_add, dot_act, unit_other}
 use Rattle.lin_algebra.proofs.EchelonLaws.{each_pivot_row}

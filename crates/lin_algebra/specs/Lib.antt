@@ -1,5 +1,4 @@
 pub mod Vectors
-pub mod Spans
 pub mod Echelons
 pub mod Matrices
 pub mod Bases

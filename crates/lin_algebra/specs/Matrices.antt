@@ -6,6 +6,8 @@
 --   beside n u v        the first n entries of the vector u, and then those of v
 --   entries k m         the scalar at a row and a column, 0 outside the matrix
 --   vectors_of k m      the rows as vectors
+--   first_columns k m n the first n columns as vectors
+--   columns_of k m      all columns as vectors
 --   pivot_rows k e      the rows of an echelon form, each with its pivot
 --   IsMatrix k m        m has rows · cols cells, all of them values of the field
 --   product R n a b     the product of a, with n columns, and b, with n rows
@@ -55,6 +57,15 @@ module _ {E : Type 0} (k : FieldOn E) where
   -- the rows as vectors
   abbrev pub vectors_of : Matrix E → List (ℕ → Scalar k)
   vectors_of m = map (vector k) (rows_of m)
+
+  -- the first columns as vectors
+  abbrev pub first_columns : Matrix E → ℕ → List (ℕ → Scalar k)
+  first_columns m zero = []
+  first_columns m (suc n) = first_columns m n ++ (λ i. entries m i n) ∷ []
+
+  -- the columns as vectors
+  abbrev pub columns_of : Matrix E → List (ℕ → Scalar k)
+  columns_of m = first_columns m m.cols
 
   -- the rows, each with its pivot
   abbrev pub pivot_rows : Echelon E → List (PivotRow (Scalar k))

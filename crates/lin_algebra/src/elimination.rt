@@ -1,7 +1,7 @@
 ghost use Rattle.std.specs.Prelude.{◌≡◌, ◌≢◌, ℕ, ◌<◌, ◌≤◌, ◌∷◌, All, length, map, slice_index_or, IfOk, OnOk, vec_len};
 ghost use Rattle.alg_core.specs.Fields.{Has, scalars};
 ghost use Rattle.lin_algebra.specs.Vectors.{vectors, vector, IsRow};
-ghost use Rattle.lin_algebra.specs.Spans.{SameSpan};
+ghost use Rattle.alg_core.specs.Spans.{SameSpan};
 ghost use Rattle.lin_algebra.specs.Bases.{basis_rows, rows_of_basis, IsBasis, cleared_at, cleared, reduced_by, IsMonicMultiple, IsPutIn};
 
 use crate::rows::{add_multiple, first_nonzero, is_zero, scale};
@@ -15,19 +15,20 @@ pub(crate) struct BasisRow<E> {
     pub entries: Vec<E>,
 }
 
-/// Makes a row zero at `column` by a multiple of a row that is 1 there.
+/// Makes a row zero at `column` by a multiple of a row that is 1 there, and 0 before.
 fn clear_at<F: Field>(field: &F, row: &mut [F::Elem], by: &[F::Elem], column: usize)
     requires same { length row.old ≡ length by.now }
     requires column { column < length row.old }
     requires row_has { All (Has (F.field field.now)) row.old }
     requires by_has { All (Has (F.field field.now)) by.now }
+    requires before { let k = F.field field.now in (j : ℕ) → j < column → vector k by.now j ≡ (scalars k).zero }
     ensures has { All (Has (F.field field.now)) row.new }
     ensures cleared { let k = F.field field.now in
         vector k row.new ≡ cleared_at (scalars k) column (vector k by.now) (vector k row.old) }
 {
     let factor = field.neg(row[column]);
     if !is_zero(field, factor) {
-        add_multiple(field, row, factor, by);
+        add_multiple(field, row, factor, by, column);
     }
 }
 
@@ -48,6 +49,7 @@ fn reduce<F: Field>(field: &F, basis: &[BasisRow<F::Elem>], row: &mut [F::Elem])
 fn clear_column<F: Field>(field: &F, basis: &mut [BasisRow<F::Elem>], new: &[F::Elem], pivot: usize)
     requires column { pivot < length new.now }
     requires has { All (Has (F.field field.now)) new.now }
+    requires before { let k = F.field field.now in (j : ℕ) → j < pivot → vector k new.now j ≡ (scalars k).zero }
     requires rows { All (λ e. IsRow (F.field field.now) (length new.now) e.entries.items) basis.old }
     ensures rows { All (λ e. IsRow (F.field field.now) (length new.now) e.entries.items) basis.new }
     ensures cleared { let k = F.field field.now in
@@ -94,6 +96,7 @@ fn put_in<F: Field>(
 ) -> Result<(), Memory>
     requires column { pivot < vec_len entries }
     requires has { All (Has (F.field field.now)) entries.items }
+    requires before { let k = F.field field.now in (j : ℕ) → j < pivot → vector k entries.items j ≡ (scalars k).zero }
     requires rows { All (λ e. IsRow (F.field field.now) (vec_len entries) e.entries.items) basis.old.items }
     requires inside { All (λ e. e.pivot < vec_len entries) basis.old.items }
     ensures rows { OnOk result (All (λ e. IsRow (F.field field.now) (vec_len entries) e.entries.items) basis.new.items) }

@@ -2,7 +2,7 @@ ghost use Rattle.std.specs.Prelude.{◌≡◌, ℕ, ◌+◌, ◌<◌, ◌*◌, �
 ghost use Rattle.std.specs.List.{zip};
 ghost use Rattle.alg_core.specs.Fields.{Has, Scalar, scalars};
 ghost use Rattle.lin_algebra.specs.Vectors.{IsRow, vector, vectors};
-ghost use Rattle.lin_algebra.specs.Spans.{InSpan, SameSpan};
+ghost use Rattle.alg_core.specs.Spans.{InSpan, SameSpan};
 ghost use Rattle.lin_algebra.specs.Echelons.{IsReducedEchelon};
 ghost use Rattle.lin_algebra.specs.Matrices.{IsMatrix, rows_of, vectors_of, pivot_rows, IsKernelVector};
 ghost use Rattle.lin_algebra.specs.Bases.{basis_rows, rows_of_basis, IsBasis};

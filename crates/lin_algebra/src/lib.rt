@@ -12,7 +12,7 @@ mod systems;
 
 pub use forms::{echelon, kernel};
 pub use inverses::{identity, inverse};
-pub use laws::{echelon_is_unique, solution_is_unique};
+pub use laws::{echelon_is_unique, solution_is_greedy, solution_is_unique};
 pub use matrix::{Echelon, Matrix};
 pub use products::multiply;
 pub use systems::solve;

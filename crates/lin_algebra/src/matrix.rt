@@ -21,8 +21,8 @@ pub struct Echelon<E> {
 impl<E> Matrix<E> {
     ghost use Rattle.lin_algebra.specs.Matrices.{rows_of};
 
-    /// The cells of a row.
-    pub(crate) fn row(&self, i: usize) -> &[E]
+    /// The cells of a row, from 0.
+    pub fn row(&self, i: usize) -> &[E]
         requires whole { length self.now.cells.items ≡ self.now.rows * self.now.cols }
         requires row { i < self.now.rows }
         ensures is { result.now ≡ slice_index_or (rows_of self.now) i [] }

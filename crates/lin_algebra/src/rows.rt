@@ -25,14 +25,17 @@ pub(crate) fn zeros<F: Field>(alloc: Global, field: &F, n: usize) -> Result<Vec<
     Ok(row)
 }
 
-/// Adds `factor` times another row.
+/// Adds `factor` times another row, whose entries before the column `from` are 0.
+#[inline(never)]
 pub(crate) fn add_multiple<F: Field>(
     field: &F,
     row: &mut [F::Elem],
     factor: F::Elem,
     by: &[F::Elem],
+    from: usize,
 )
     requires same { length row.old ≡ length by.now }
+    requires before { let k = F.field field.now in (j : ℕ) → j < from → vector k by.now j ≡ (scalars k).zero }
     requires factor { Has (F.field field.now) factor }
     requires row_has { All (Has (F.field field.now)) row.old }
     requires by_has { All (Has (F.field field.now)) by.now }
@@ -40,8 +43,10 @@ pub(crate) fn add_multiple<F: Field>(
     ensures sum { let k = F.field field.now in let X = vectors (scalars k) in
         vector k row.new ≡ X.◌+◌ (vector k row.old) (X.◌·◌ (scalar k factor) (vector k by.now)) }
 {
-    for j in 0..row.len() {
-        row[j] = field.add(row[j], field.mul(factor, by[j]));
+    // A field of one's own stays in registers, and the loop takes several entries at a time.
+    let own = *field;
+    for j in from..row.len() {
+        row[j] = own.add(row[j], own.mul(factor, by[j]));
     }
 }
 

@@ -1,7 +1,7 @@
 ghost use Rattle.std.specs.Prelude.{◌≡◌, ℕ, ◌+◌, ◌^◌, ◌<◌, ◌≢◌, true, false, Any, All, map, IfNone, IfOk, IfSome};
 ghost use Rattle.alg_core.specs.Fields.{Scalar, scalars};
 ghost use Rattle.lin_algebra.specs.Vectors.{IsRow, vector, vectors};
-ghost use Rattle.lin_algebra.specs.Spans.{SameSpan};
+ghost use Rattle.alg_core.specs.Spans.{SameSpan};
 ghost use Rattle.lin_algebra.specs.Matrices.{IsMatrix, rows_of, joined, IsSolution, IsDependent};
 ghost use Rattle.lin_algebra.specs.Bases.{rows_of_basis, IsBasis};
 

@@ -8,11 +8,11 @@ use Rattle.alg_core.specs.KeyOrders.{OrderOn, Trichotomy, trichotomy, less_irref
 use Rattle.alg_core.specs.Leads.{lead_unique}
 use Rattle.alg_core.specs.Lists.{In}
 use Rattle.alg_core.specs.Vectors.{Vect, vectors, coef_at, plus}
-use Rattle.poly_module.specs.Spans.{combine, Independent}
+use Rattle.alg_core.specs.Spans.{combine, Independent}
 use Rattle.poly_module.specs.Modules.{LeadBy, IsSubspace}
 use Rattle.poly_module.specs.ReducedLists.{LeadsFall}
 use Rattle.poly_module.specs.Echelons.{Spans, IsEchelon}
-use Rattle.poly_module.proofs.SpanLaws.{span_member}
+use Rattle.alg_core.proofs.SpanLaws.{span_member}
 use Rattle.poly_module.proofs.Reduced.{reduced_unique}
 use Rattle.poly_module.proofs.EchelonLists.{Row, rows, IsRow, AreRows, shadow, left, at_pivots, coef_at_act, coef_at_sum, coef_at_nothing, shadow_in_span, shadow_of_span, left_at_pivot, pivots_combine, spans_subspace}
 use Rattle.poly_module.proofs.Elimination.{in_rows_back, in_rows_of, difference_plus, RowsOf, eliminate}

@@ -10,10 +10,10 @@ use Rattle.alg_core.specs.Leads.{HasLead, has_lead}
 use Rattle.alg_core.specs.Lists.{In}
 use Rattle.alg_core.specs.Vectors.{Vect, vectors, coef_at, plus, zero_vector}
 use Rattle.poly_module.specs.Parts.{Supp, supp_zero, supp_plus, supp_act}
-use Rattle.poly_module.specs.Spans.{combine}
+use Rattle.alg_core.specs.Spans.{combine}
 use Rattle.poly_module.specs.Modules.{IsSubspace, LeadBy}
 use Rattle.poly_module.specs.Echelons.{Spans}
-use Rattle.poly_module.proofs.SpanLaws.{span_zero, span_add, span_act, span_ind}
+use Rattle.alg_core.proofs.SpanLaws.{span_zero, span_add, span_act, span_ind}
 use Rattle.poly_module.proofs.Reduced.{difference, coef_difference, difference_zero}
 
 module _ {E : Type 0} (k : FieldOn E) where

@@ -11,7 +11,7 @@ use Rattle.alg_core.specs.Lists.{In, map_in}
 use Rattle.alg_core.specs.Vectors.{Vect, vectors, coef_at, plus, zero_vector}
 use Rattle.poly_module.specs.Modules.{LeadBy}
 use Rattle.poly_module.specs.Echelons.{Spans}
-use Rattle.poly_module.proofs.SpanLaws.{span_add, span_act, span_minus, span_tail, span_head, span_member, span_within}
+use Rattle.alg_core.proofs.SpanLaws.{span_add, span_act, span_minus, span_tail, span_head, span_member, span_within}
 use Rattle.poly_module.proofs.Reduced.{difference, coef_difference, difference_zero}
 use Rattle.poly_module.proofs.EchelonLists.{Row, rows, IsRow, AreRows, shadow, left, coef_at_act, shadow_in_span, left_at_pivot, in_rows}
 

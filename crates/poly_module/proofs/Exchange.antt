@@ -4,8 +4,8 @@ use Rattle.std.proofs.lemmas.List.{length-append}
 use Rattle.alg_core.specs.Rings.{Ring, Module, IsField}
 use Rattle.alg_core.specs.ModuleLaws as modules
 use Rattle.alg_core.specs.Lists.{In}
-use Rattle.poly_module.specs.Spans.{combine, InSpan, Independent}
-use Rattle.poly_module.proofs.SpanLaws.{span_add, span_act, span_minus, span_member, span_within, span_parts}
+use Rattle.alg_core.specs.Spans.{combine, InSpan, Independent}
+use Rattle.alg_core.proofs.SpanLaws.{span_add, span_act, span_minus, span_member, span_within, span_parts}
 
 in_left : {A : Type 0} (x : A) (l l' : List A) → In x l → In x (l ++ l')
 in_left x [] l' h = absurd h

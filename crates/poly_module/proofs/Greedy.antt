@@ -3,8 +3,8 @@ use Rattle.std.proofs.Common.{◌≡◌, ℕ, zero, suc, ◌<◌, List, [], ◌�
 use Rattle.alg_core.specs.Rings.{Ring, Module, IsField}
 use Rattle.alg_core.specs.RingLaws as rings
 use Rattle.alg_core.specs.ModuleLaws as modules
-use Rattle.poly_module.specs.Spans.{combine, InSpan, Greedy}
-use Rattle.poly_module.proofs.SpanLaws.{span_zero, span_add, span_act, span_minus, span_append, span_parts, span_one, span_head, span_nothing}
+use Rattle.alg_core.specs.Spans.{combine, InSpan, Greedy}
+use Rattle.alg_core.proofs.SpanLaws.{span_zero, span_add, span_act, span_minus, span_append, span_parts, span_one, span_head, span_nothing}
 
 module _ {K : Type 0} {R : Ring K} (k : IsField R) {A : Type 0} (X : Module R A) where
   -- the same for the members ws after the members us

@@ -15,7 +15,6 @@ pub mod KeyGrowth
 pub mod Reduced
 pub mod ExponentBounds
 pub mod PowerSteps
-pub mod SpanLaws
 pub mod Greedy
 pub mod EchelonLists
 pub mod Elimination

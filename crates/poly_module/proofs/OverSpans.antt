@@ -14,7 +14,7 @@ use Rattle.poly_module.specs.Degrees.{graded_part, graded_part_supp, graded_part
 use Rattle.poly_module.specs.Forms.{key_weight, IsForm, AreForms, form_part}
 use Rattle.poly_module.specs.Echelons.{Spans}
 use Rattle.poly_module.specs.Combinations.{combination_degree, term_value, combination_value, Over}
-use Rattle.poly_module.proofs.SpanLaws.{span_zero, span_add, span_act, span_member, span_ind}
+use Rattle.alg_core.proofs.SpanLaws.{span_zero, span_add, span_act, span_member, span_ind}
 use Rattle.poly_module.proofs.ModuleElements.{terms_supp}
 use Rattle.poly_module.proofs.CombinationLaws.{combination_value_linear, combination_value_zero, combination_value_single, combination_value_part, over_zero, over_plus, over_act}
 use Rattle.poly_module.proofs.Elimination.{span_decidable}

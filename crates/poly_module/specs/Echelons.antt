@@ -8,7 +8,7 @@ use Rattle.alg_core.specs.Fields.{FieldOn}
 use Rattle.alg_core.specs.Keys.{Key}
 use Rattle.alg_core.specs.KeyOrders.{OrderOn}
 use Rattle.alg_core.specs.Vectors.{Vect, vectors}
-use Rattle.poly_module.specs.Spans.{InSpan}
+use Rattle.alg_core.specs.Spans.{InSpan}
 use Rattle.poly_module.specs.ReducedLists.{IsReduced}
 
 module _ {E : Type 0} (k : FieldOn E) where

@@ -12,7 +12,6 @@ pub mod Modules
 pub mod ReducedLists
 pub mod GreatestExponents
 pub mod PowerTables
-pub mod Spans
 pub mod Echelons
 pub mod Combinations
 pub mod SpaceVectors

@@ -19,7 +19,7 @@ ghost use Rattle.poly_module.specs.Degrees.{IsGraded, parts_below, IsHomogeneous
 ghost use Rattle.poly_module.specs.Forms.{key_weight, IsForm, form_part, AreForms};
 ghost use Rattle.poly_module.specs.Modules.{IsSubspace, InModule, summands, listed, IsGroebnerBasis, LeadBy};
 ghost use Rattle.poly_module.specs.ReducedLists.{FitsOrder, IsReducedBasis};
-ghost use Rattle.poly_module.specs.Spans.{combine, Independent, Greedy};
+ghost use Rattle.alg_core.specs.Spans.{combine, Independent, Greedy};
 ghost use Rattle.poly_module.specs.Echelons.{Spans, IsEchelon};
 ghost use Rattle.poly_module.specs.Combinations.{mark_value, term_value, combination_value, Over, combination_degree};
 

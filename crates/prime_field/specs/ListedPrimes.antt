@@ -31,7 +31,7 @@ NoDivisor-from_test p big h = record {
   none = λ d above below. none_divides_each p (p - 2) d h above (omega arith);
 }
 
-listed_one : (p : ℕ) → is_listed p ≡ true → (p ≡ 2) ⊎ ((p ≡ 3) ⊎ ((p ≡ 5) ⊎ ((p ≡ 7) ⊎ ((p ≡ 11) ⊎ ((p ≡ 257) ⊎ (p ≡ 32003))))))
+pub listed_one : (p : ℕ) → is_listed p ≡ true → (p ≡ 2) ⊎ ((p ≡ 3) ⊎ ((p ≡ 5) ⊎ ((p ≡ 7) ⊎ ((p ≡ 11) ⊎ ((p ≡ 257) ⊎ (p ≡ 32003))))))
 listed_one p h = grind (arith, nat_tests)
 
 -- each listed number is a prime

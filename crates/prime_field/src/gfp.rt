@@ -3,6 +3,7 @@ ghost use Rattle.prime_field.specs.ListedPrimes.{is_listed};
 ghost use Rattle.prime_field.specs.PrimeFields.{IsPrimeField};
 
 use crate::inverse::inverse;
+use crate::product::product;
 use alg_core::Field;
 
 /// The characteristic is none of 2, 3, 5, 7, 11, 257, 32003.
@@ -50,18 +51,19 @@ impl Field for PrimeField {
         1
     }
 
+    #[inline(always)]
     fn add(&self, a: u16, b: u16) -> u16 {
-        let sum = u32::from(a) + u32::from(b);
-        (sum % u32::from(self.p)) as u16
+        let gap = self.p - b;
+        if a < gap { a + b } else { a - gap }
     }
 
     fn neg(&self, a: u16) -> u16 {
         (self.p - a) % self.p
     }
 
+    #[inline(always)]
     fn mul(&self, a: u16, b: u16) -> u16 {
-        let product = u32::from(a) * u32::from(b);
-        (product % u32::from(self.p)) as u16
+        product(self.p, a, b)
     }
 
     fn inv(&self, a: u16) -> Option<u16> {

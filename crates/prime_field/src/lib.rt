@@ -3,6 +3,7 @@
 
 mod gfp;
 mod inverse;
+mod product;
 
 pub use gfp::{NotListed, PrimeField};
 

@@ -5,23 +5,17 @@ use Rattle.alg_core.specs.ExponentLists.{product, Within}
 use Rattle.poly_module.specs.GreatestExponents.{total}
 use Rattle.invariant_space.specs.Levels.{unit_exponents}
 use Rattle.invariant_space.proofs.MonomialDegrees.{length_unit, length_times, exponents_small}
-use Rattle.invariant_space.proofs.Images.{imaged_none, imaged_more, imaged_whole, square_own, form_image, column_image, times_image, product_small}
+use Rattle.invariant_space.proofs.Images.{imaged_none, imaged_more, imaged_whole, acts_on, form_image, column_image, times_image, product_small}
 use Rattle.invariant_space.proofs.ListLaws.{element}
 use Rattle.invariant_space.proofs.columns.times.Goals as goal
 
 pub loop-j-init : goal.loop-j-init
 loop-j-init g c = imaged_none (over g.F.Field.field g.O.TermOrder.order c.args.space.now) c.args.gens.now _ c.new-images.result.items c.new-images.ensures.items
 
-pub row_form-requires-clause-square : goal.row_form-requires-clause-square
-row_form-requires-clause-square g c =
+pub row_form-requires-clause-matrix : goal.row_form-requires-clause-matrix
+row_form-requires-clause-matrix g c =
     let S = over g.F.Field.field g.O.TermOrder.order c.args.space.now in
-    square_own S (length S.weights) c.index-gens-j.result (element (IsSquare S.field (length S.weights)) c.args.gens.now c.loop-j.j c.index-gens-j.result c.requires.square c.loop-j-test.true c.index-gens-j.is)
-
-pub row_form-requires-clause-within : goal.row_form-requires-clause-within
-row_form-requires-clause-within g c =
-    let S = over g.F.Field.field g.O.TermOrder.order c.args.space.now in
-    let square = element (IsSquare S.field (length S.weights)) c.args.gens.now c.loop-j.j c.index-gens-j.result c.requires.square c.loop-j-test.true c.index-gens-j.is in
-    omega (arith, square.rows)
+    acts_on S c.index-gens-j.result (element (IsSquare S.field (length S.weights)) c.args.gens.now c.loop-j.j c.index-gens-j.result c.requires.square c.loop-j-test.true c.index-gens-j.is)
 
 pub row_form-requires-clause-row : goal.row_form-requires-clause-row
 row_form-requires-clause-row g c =
@@ -33,19 +27,20 @@ pub mul-requires-clause-polynomial : goal.mul-requires-clause-polynomial
 mul-requires-clause-polynomial g c =
     let S = over g.F.Field.field g.O.TermOrder.order c.args.space.now in
     let square = element (IsSquare S.field (length S.weights)) c.args.gens.now c.loop-j.j c.index-gens-j.result c.requires.square c.loop-j-test.true c.index-gens-j.is in
-    (form_image S c.index-gens-j.result square c.args.i c.in_ok-form.form c.in_ok-form.ensures.fits c.in_ok-form.ensures.form).polynomial.positions
+    let form = (form_image S c.index-gens-j.result square c.args.i c.in_ok-form.form c.in_ok-form.ensures.form).polynomial in
+    record { fits = form.fits; position = form.position }
 
-pub mul-requires-clause-right : goal.mul-requires-clause-right
-mul-requires-clause-right g c =
+pub mul-requires-clause-vector : goal.mul-requires-clause-vector
+mul-requires-clause-vector g c =
     let S = over g.F.Field.field g.O.TermOrder.order c.args.space.now in
     (column_image S c.args.gens.now c.args.column.now c.loop-j.j c.index-gens-j.result c.index.result.now c.requires.column c.loop-j-test.true c.index-gens-j.is c.index.ensures).polynomial.fits
 
-pub mul-requires-clause-small : goal.mul-requires-clause-small
-mul-requires-clause-small g c =
+pub mul-requires-clause-room : goal.mul-requires-clause-room
+mul-requires-clause-room g c =
     let S = over g.F.Field.field g.O.TermOrder.order c.args.space.now in
     let square = element (IsSquare S.field (length S.weights)) c.args.gens.now c.loop-j.j c.index-gens-j.result c.requires.square c.loop-j-test.true c.index-gens-j.is in
     product_small S 1 (total c.args.column.now.at.mono) 4294967295 _ _ c.in_ok-form.form c.index.result.now (omega (arith, c.requires.degree))
-    (form_image S c.index-gens-j.result square c.args.i c.in_ok-form.form c.in_ok-form.ensures.fits c.in_ok-form.ensures.form)
+    (form_image S c.index-gens-j.result square c.args.i c.in_ok-form.form c.in_ok-form.ensures.form)
     (column_image S c.args.gens.now c.args.column.now c.loop-j.j c.index-gens-j.result c.index.result.now c.requires.column c.loop-j-test.true c.index-gens-j.is c.index.ensures)
 
 pub loop-j-preserved : goal.loop-j-preserved
@@ -54,9 +49,9 @@ loop-j-preserved g c =
     let square = element (IsSquare S.field (length S.weights)) c.args.gens.now c.loop-j.j c.index-gens-j.result c.requires.square c.loop-j-test.true c.index-gens-j.is in
     imaged_more S c.args.gens.now (product c.args.column.now.at.mono (unit_exponents (length S.weights) c.args.i)) c.loop-j.j c.loop-j.images.items c.push.new.self.items c.index-gens-j.result c.in_ok-mul.field-0 c.loop-j-test.true c.index-gens-j.is c.in_ok-push.ensures.items
     (times_image S c.index-gens-j.result square c.args.i c.args.column.now.at.mono c.in_ok-form.form c.index.result.now c.in_ok-mul.field-0 c.requires.variable c.requires.column.place.place.wide
-    (form_image S c.index-gens-j.result square c.args.i c.in_ok-form.form c.in_ok-form.ensures.fits c.in_ok-form.ensures.form)
+    (form_image S c.index-gens-j.result square c.args.i c.in_ok-form.form c.in_ok-form.ensures.form)
     (column_image S c.args.gens.now c.args.column.now c.loop-j.j c.index-gens-j.result c.index.result.now c.requires.column c.loop-j-test.true c.index-gens-j.is c.index.ensures)
-    c.in_ok-mul.ensures.fits c.in_ok-mul.ensures.product)
+    c.in_ok-mul.ensures.product.fits c.in_ok-mul.ensures.product.is)
     c.loop-j.invariant
 
 pub product-requires-clause-same : goal.product-requires-clause-same
@@ -83,5 +78,5 @@ returns-clause-mono g c =
 pub returns-clause-column : goal.returns-clause-column
 returns-clause-column g c =
     let S = over g.F.Field.field g.O.TermOrder.order c.args.space.now in
-    imaged_whole S c.args.gens.now (product c.args.column.now.at.mono (unit_exponents (length S.weights) c.args.i)) c.loop-j.j record { at = record { pos = 0; mono = c.in_ok-mono.mono }; images = c.loop-j.images } c.requires.constants refl
+    imaged_whole S c.args.gens.now (product c.args.column.now.at.mono (unit_exponents (length S.weights) c.args.i)) c.loop-j.j record { at = record { pos = 0; mono = c.in_ok-mono.mono }; images = c.loop-j.images } c.requires.polynomials.constants refl
     (returns-clause-mono g c) (length_times (length S.weights) c.args.i c.args.column.now.at.mono c.requires.column.place.place.wide) c.loop-j-test.false c.loop-j.auto.j-end c.loop-j.invariant

@@ -41,5 +41,5 @@ returns g c =
     let S = over g.F.Field.field g.O.TermOrder.order c.args.space.now in
     record {
       polynomial = row_made S c.args.columns.now (vector S.field c.args.row.now) c.loop-l.l c.as_slice.result.now c.in_ok-made.made c.loop-l-test.false
-          (subst (Row S c.args.columns.now (vector S.field c.args.row.now) c.loop-l.l) (sym c.as_slice.ensures.value) c.loop-l.invariant) c.in_ok-made.ensures.fits c.in_ok-made.ensures.sum;
+          (subst (Row S c.args.columns.now (vector S.field c.args.row.now) c.loop-l.l) (sym c.as_slice.ensures.value) c.loop-l.invariant) c.in_ok-made.ensures.sum;
     }

@@ -11,12 +11,12 @@ loop-i-init g c = rows_none (over g.F.Field.field g.O.TermOrder.order c.args.spa
 pub polynomial-requires-clause-row : goal.polynomial-requires-clause-row
 polynomial-requires-clause-row g c =
     let k = g.F.Field.field c.args.space.now.field in
-    subst (λ n. IsRow k n c.matrix_row.result.now) c.requires.columns (IsRow_row k c.args.a.now c.loop-i.i c.matrix_row.result.now c.requires.matrix c.loop-i-test.true c.matrix_row.ensures.is)
+    subst (λ n. IsRow k n c.row.result.now) c.requires.columns (IsRow_row k c.args.a.now c.loop-i.i c.row.result.now c.requires.matrix c.loop-i-test.true c.row.ensures.is)
 
 pub loop-i-preserved : goal.loop-i-preserved
 loop-i-preserved g c =
     let S = over g.F.Field.field g.O.TermOrder.order c.args.space.now in
-    rows_more S c.args.columns.now c.args.a.now c.loop-i.i c.loop-i.polynomials.items c.push.new.self.items c.in_ok-polynomial.field-0 c.matrix_row.result.now c.matrix_row.ensures.is c.in_ok-push.ensures.items c.in_ok-polynomial.ensures.polynomial c.loop-i.invariant
+    rows_more S c.args.columns.now c.args.a.now c.loop-i.i c.loop-i.polynomials.items c.push.new.self.items c.in_ok-polynomial.field-0 c.row.result.now c.row.ensures.is c.in_ok-push.ensures.items c.in_ok-polynomial.ensures.polynomial c.loop-i.invariant
 
 pub returns-clause-are : goal.returns-clause-are
 returns-clause-are g c =

@@ -3,7 +3,7 @@ use Rattle.std.proofs.lemmas.List.{map-append, nil_from_length, append-nil}
 use Rattle.std.proofs.lemmas.List.Elements.{All-pop}
 use Rattle.alg_core.specs.Fields.{scalars, Scalar}
 use Rattle.lin_algebra.specs.Vectors.{vectors, vector, IsRow}
-use Rattle.lin_algebra.specs.Spans.{SameSpan}
+use Rattle.alg_core.specs.Spans.{SameSpan}
 use Rattle.lin_algebra.specs.Bases.{rows_of_basis, IsBasis}
 use Rattle.lin_algebra.proofs.SpanLaws.{SameSpan_move}
 use Rattle.lin_algebra.proofs.BasisLaws.{IsBasis_nil, rows_of_basis_nil}

@@ -1,7 +1,7 @@
 use Rattle.std.proofs.Common.{All, map, ◌++◌, vec_len}
 use Rattle.alg_core.specs.Fields.{scalars}
 use Rattle.lin_algebra.specs.Vectors.{vectors, vector, IsRow}
-use Rattle.lin_algebra.specs.Spans.{SameSpan}
+use Rattle.alg_core.specs.Spans.{SameSpan}
 use Rattle.lin_algebra.specs.Bases.{rows_of_basis, IsBasis}
 use Rattle.lin_algebra.proofs.elimination.eliminate.Given as goal
 

@@ -5,7 +5,7 @@ use Rattle.alg_core.specs.Fields.{scalars, is_field}
 use Rattle.lin_algebra.specs.Vectors.{vector}
 use Rattle.lin_algebra.specs.Bases.{basis_rows, reduced_by, IsMonicMultiple, IsPutIn}
 use Rattle.lin_algebra.proofs.RowLaws.{vector_zero}
-use Rattle.lin_algebra.proofs.BasisLaws.{zero_before}
+use Rattle.lin_algebra.proofs.BasisLaws.{zero_before, monic_before}
 use Rattle.lin_algebra.proofs.InsertLaws.{SameSpan_reduced_to_zero, put_in_reduced, put_in_span}
 use Rattle.lin_algebra.proofs.elimination.insert.Goals as goal
 
@@ -18,6 +18,18 @@ returns-in_default-clause-span g c =
     let seen : c.deref-2.result.now ≡ c.reduce.new.row = c.deref-2.ensures.value ∙ with_items_is c.args.row c.reduce.new.row (omega (arith, whole)) in
     let none : All (λ a. a ≡ k.zero) c.reduce.new.row = subst (All (λ a. a ≡ k.zero)) seen c.in_default.ensures.none in
     SameSpan_reduced_to_zero R (vector k c.args.row.items) (basis_rows k c.args.basis.now.items) (sym left ∙ vector_zero k c.reduce.new.row none)
+
+pub put_in-requires-clause-before : goal.put_in-requires-clause-before
+put_in-requires-clause-before g c =
+    let k = g.F.Field.field c.args.field.now in
+    let p = c.in-Some.pivot in
+    let whole = c.args.row.ok.0 in
+    let written = with_items_is c.args.row c.reduce.new.row (omega (arith, whole)) in
+    let seen : c.deref-2.result.now ≡ c.reduce.new.row = c.deref-2.ensures.value ∙ written in
+    let before = zero_before k c.reduce.new.row p (subst (λ l. (i : ℕ) → i < p → slice_index_or l i k.zero ≡ k.zero) seen c.in-Some.ensures.before) in
+    let monic = subst (λ r. IsMonicMultiple (scalars k) p (vector k r) (vector k c.normalize.new.row)) (c.deref_mut-2.ensures.value ∙ written) c.normalize.ensures.monic in
+    subst (λ r. (j : ℕ) → j < p → vector k r j ≡ (scalars k).zero) (sym (with_items_is (with_items c.args.row c.reduce.new.row) c.normalize.new.row (omega (arith, whole))))
+    (monic_before k p (vector k c.reduce.new.row) (vector k c.normalize.new.row) monic before)
 
 pub returns-clause-basis : goal.returns-clause-basis
 returns-clause-basis g c =

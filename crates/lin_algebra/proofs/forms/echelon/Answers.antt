@@ -2,7 +2,7 @@ use Rattle.std.proofs.Common.{◌∙◌, ap, map, sym, subst, All}
 use Rattle.alg_core.specs.Fields.{scalars}
 use Rattle.lin_algebra.specs.declared.elimination.BasisRow.{BasisRow}
 use Rattle.lin_algebra.specs.Vectors.{vectors, IsRow}
-use Rattle.lin_algebra.specs.Spans.{SameSpan}
+use Rattle.alg_core.specs.Spans.{SameSpan}
 use Rattle.lin_algebra.specs.Echelons.{IsReducedEchelon}
 use Rattle.lin_algebra.specs.Matrices.{vectors_of}
 use Rattle.lin_algebra.proofs.FormLaws.{IsMatrix_of_basis, vectors_of_made, pivot_rows_made}

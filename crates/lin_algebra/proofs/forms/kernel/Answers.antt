@@ -4,7 +4,7 @@ use Rattle.std.proofs.lemmas.List.Elements.{All-push}
 use Rattle.alg_core.specs.Fields.{scalars, Scalar}
 use Rattle.lin_algebra.specs.declared.elimination.BasisRow.{BasisRow}
 use Rattle.lin_algebra.specs.Vectors.{vectors, vector, IsRow}
-use Rattle.lin_algebra.specs.Spans.{SameSpan}
+use Rattle.alg_core.specs.Spans.{SameSpan}
 use Rattle.lin_algebra.specs.Echelons.{IsReducedEchelon}
 use Rattle.lin_algebra.specs.Bases.{basis_rows, rows_of_basis}
 use Rattle.lin_algebra.specs.Kernels.{kernel_vector}

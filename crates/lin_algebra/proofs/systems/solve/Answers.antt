@@ -3,7 +3,7 @@ use Rattle.alg_core.specs.Fields.{scalars, is_field}
 use Rattle.lin_algebra.specs.declared.elimination.BasisRow.{BasisRow}
 use Rattle.lin_algebra.specs.declared.matrix.Matrix.{Matrix}
 use Rattle.lin_algebra.specs.Vectors.{vectors, vector, dot}
-use Rattle.lin_algebra.specs.Spans.{SameSpan}
+use Rattle.alg_core.specs.Spans.{SameSpan}
 use Rattle.lin_algebra.specs.Matrices.{entries}
 use Rattle.lin_algebra.specs.Bases.{rows_of_basis, basis_rows}
 use Rattle.lin_algebra.specs.Kernels.{particular}

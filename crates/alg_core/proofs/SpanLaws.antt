@@ -3,7 +3,7 @@ use Rattle.std.proofs.Common.{◌≡◌, inl, inr, suc, List, [], ◌∷◌, ◌
 use Rattle.alg_core.specs.Rings.{Ring, Module, Linear}
 use Rattle.alg_core.specs.ModuleLaws as modules
 use Rattle.alg_core.specs.Lists.{In}
-use Rattle.poly_module.specs.Spans.{combine, InSpan}
+use Rattle.alg_core.specs.Spans.{combine, InSpan}
 
 module _ {K : Type 0} {R : Ring K} {A : Type 0} (X : Module R A) where
   added : List K → List K → List K
