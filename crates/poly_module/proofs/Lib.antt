@@ -39,3 +39,4 @@ pub mod Room
 pub mod Marks
 pub mod RelationIdeals
 pub mod ReducedVariables
+pub mod WalkLaws

@@ -17,3 +17,6 @@ pub mod Combinations
 pub mod SpaceVectors
 pub mod Sizes
 pub mod Marks
+pub mod Caps
+pub mod Walks
+pub mod Choices

@@ -3,7 +3,8 @@
 --   LeadsFall k o vs          the leads of the vectors fall strictly
 --   IsReduced k o D U vs      the reduced list of a set U of vectors, where D says which keys are multiples of which
 --   FitsOrder S t             the order of the space S is for the position of the key t
---   IsReducedBasis S g vs     the reduced basis of the module of the family g, by the order of the space S
+--   IsReducedBasisOf S U vs   the reduced basis of a module that is given as a set U of vectors, by the order of the space S
+--   IsReducedBasis S g vs     that of the module of the family g
 use Rattle.std.specs.Prelude.{◌≡◌, true, List, [], ◌∷◌, length}
 use Rattle.std.specs.declared.cmp.Ordering.TheVariants.{Less}
 use Rattle.alg_core.specs.Fields.{FieldOn, scalars}
@@ -36,7 +37,11 @@ module _ {E : Type 0} (S : SpaceOver E) where
   abbrev pub FitsOrder : Key → Type 0
   FitsOrder t = S.order.fits t.0 (length S.weights) ≡ true
 
-  -- a reduced list of the module that generates it
-  pub record IsReducedBasis {I : Type 0} (g : I → Vect S.field) (vs : List (Vect S.field)) : Type 0 where
-    pub reduced : IsReduced S.field (key_order S) KeyDivides (InModule S.field g) vs
-    pub generates : (v : Vect S.field) → InModule S.field g v → InModule S.field (listed S.field vs) v
+  -- a reduced list of a module that generates it
+  pub record IsReducedBasisOf (U : Vect S.field → Type 0) (vs : List (Vect S.field)) : Type 0 where
+    pub reduced : IsReduced S.field (key_order S) KeyDivides U vs
+    pub generates : (v : Vect S.field) → U v → InModule S.field (listed S.field vs) v
+
+  -- of the module of a family
+  abbrev pub IsReducedBasis : {I : Type 0} → (I → Vect S.field) → List (Vect S.field) → Type 0
+  IsReducedBasis g vs = IsReducedBasisOf (InModule S.field g) vs
