@@ -45,7 +45,7 @@ module _ (S : SpaceOver ℕ) (names : Names) where
     short : IsTerm (term_of names S.field.characteristic e)
     passing : first_failed (term_conditions S.field.characteristic names (term_of names S.field.characteristic e)) ≡ None
 
-  printed_entry : (p : ℕ) (e : Entry ℕ) → IsPrimeField p S.field → length S.weights ≡ place_count names → AreDistinct names → All (λ w. IsTrue (is_name w)) names.vars.items
+  printed_entry : (p : ℕ) (e : Entry ℕ) → IsPrimeField p S.field → length S.weights ≡ place_count names → AreDistinct names → All (λ w. IsTrue (is_name w)) names.vars
       → IsTermOf S e → e.0.0 ≡ 0 → IsReadable S names e → IsPrintedEntry e
   printed_entry p e prime places_are distinct names_are term at_zero readable =
       let q = S.field.characteristic in
@@ -77,7 +77,7 @@ module _ (S : SpaceOver ℕ) (names : Names) where
   above_follows p [] h = tt
   above_follows p (e ∷ es) h = ap is_gt h.0
 
-  printed_from : (p : ℕ) (before : Option Place) (i : ℕ) (es : List (Entry ℕ)) → IsPrimeField p S.field → length S.weights ≡ place_count names → AreDistinct names → All (λ w. IsTrue (is_name w)) names.vars.items
+  printed_from : (p : ℕ) (before : Option Place) (i : ℕ) (es : List (Entry ℕ)) → IsPrimeField p S.field → length S.weights ≡ place_count names → AreDistinct names → All (λ w. IsTrue (is_name w)) names.vars
       → Fits S es → All (λ e. e.0.0 ≡ 0) es → All (IsReadable S names) es → Follows before es
       → (map (entry_of S names) (map (term_of names S.field.characteristic) es) ≡ es) × (first_fault S names before i (map (term_of names S.field.characteristic) es) ≡ None) × All IsTerm (map (term_of names S.field.characteristic) es)
   printed_from p before i [] prime places_are distinct names_are fits zeros readable follows = (refl, refl, All-nil IsTerm)
@@ -97,7 +97,7 @@ module _ (S : SpaceOver ℕ) (names : Names) where
       )
 
   -- what is printed for entries that fit and can be read is a tree whose values pass, and its entries are these
-  pub printed_values : (p : ℕ) (es : List (Entry ℕ)) → IsPrimeField p S.field → length S.weights ≡ place_count names → AreDistinct names → All (λ w. IsTrue (is_name w)) names.vars.items
+  pub printed_values : (p : ℕ) (es : List (Entry ℕ)) → IsPrimeField p S.field → length S.weights ≡ place_count names → AreDistinct names → All (λ w. IsTrue (is_name w)) names.vars
       → Fits S es → All (λ e. e.0.0 ≡ 0) es → All (IsReadable S names) es
       → (map (entry_of S names) (map (term_of names S.field.characteristic) es) ≡ es) × (first_fault S names None 1 (map (term_of names S.field.characteristic) es) ≡ None) × All IsTerm (map (term_of names S.field.characteristic) es)
   printed_values p es prime places_are distinct names_are fits zeros readable = printed_from p None 1 es prime places_are distinct names_are fits zeros readable (first es)

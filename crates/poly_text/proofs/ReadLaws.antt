@@ -25,7 +25,7 @@ module _ (S : SpaceOver ℕ) (names : Names) (places : length S.weights ≡ plac
     pub read_printed : polynomial_text S names es ≡ text
     read_printed = ap (λ (l : List (Entry ℕ)). spelling (map (term_of names S.field.characteristic) l)) entries ∙ ap spelling (values_printed S names ts places is.terms passed).0 ∙ is.spelled
 
-  module _ (p : ℕ) (prime : IsPrimeField p S.field) (distinct : AreDistinct names) (names_are : All (λ w. IsTrue (is_name w)) names.vars.items)
+  module _ (p : ℕ) (prime : IsPrimeField p S.field) (distinct : AreDistinct names) (names_are : All (λ w. IsTrue (is_name w)) names.vars)
       (es : List (Entry ℕ)) (fits : Fits S es) (zeros : All (λ e. e.0.0 ≡ 0) es) (readable : All (IsReadable S names) es) (printed : polynomial_text S names es ≡ text) where
     tree : List Term
     tree = map (term_of names S.field.characteristic) es
@@ -66,7 +66,7 @@ read_memory view (Ok f) e es h m = absurd h
 read_memory view (Err x) e es h m = h ∙ m
 
 -- entries within the bounds that have the same printed text are the same
-pub printed_same : (S : SpaceOver ℕ) (names : Names) (p : ℕ) → length S.weights ≡ place_count names → IsPrimeField p S.field → AreDistinct names → All (λ w. IsTrue (is_name w)) names.vars.items
+pub printed_same : (S : SpaceOver ℕ) (names : Names) (p : ℕ) → length S.weights ≡ place_count names → IsPrimeField p S.field → AreDistinct names → All (λ w. IsTrue (is_name w)) names.vars
     → (es fs : List (Entry ℕ)) → Fits S es → All (λ e. e.0.0 ≡ 0) es → All (IsReadable S names) es → Fits S fs → All (λ e. e.0.0 ≡ 0) fs → All (IsReadable S names) fs
     → polynomial_text S names es ≡ polynomial_text S names fs → es ≡ fs
 printed_same S names p places prime distinct names_are es fs fits zeros readable fits' zeros' readable' same =

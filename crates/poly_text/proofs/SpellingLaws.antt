@@ -168,7 +168,7 @@ opened_all T f p p' xs ys i b old new h none was is same all =
     ∙ ap spelling (sym (map-map (T p) f xs)) ∙ ap₂ (λ p l. spelling (map (T p) l)) same all
 
 -- the primary invariants alone
-pub primary_factors : (names : Names) (a : List ℕ) → names.vars.items ≡ [] → names.primaries ≡ Some (length a) → factors_from (variable_at names) 0 a ≡ factors_from (λ i. Marked Primary (i + 1)) 0 a
+pub primary_factors : (names : Names) (a : List ℕ) → names.vars ≡ [] → names.primaries ≡ Some (length a) → factors_from (variable_at names) 0 a ≡ factors_from (λ i. Marked Primary (i + 1)) 0 a
 primary_factors names a none count =
     factors_same (variable_at names) (λ i. Marked Primary (i + 1)) 0 a (λ j low high. primary _ _ j _ _ (ap length none) (omega (arith, ap count_of count)))
   where

@@ -25,31 +25,31 @@ position_at p xs i below at =
     ap (λ b. cond b (Some (position_or_len p xs)) None) (lt-ltb _ _ short) ∙ ap Some at
 
 -- where no name stands twice, the name at a place has this place
-pub name_place_at : (names : Names) (i : ℕ) → AreDistinct names → i < length names.vars.items → name_place names (get_or names.vars.items i []) ≡ Some i
+pub name_place_at : (names : Names) (i : ℕ) → AreDistinct names → i < length names.vars → name_place names (get_or names.vars i []) ≡ Some i
 name_place_at names i distinct below =
-    let vars = names.vars.items in
+    let vars = names.vars in
     let w = get_or vars i [] in
     position_at (bytes_eq w) vars i below
     (position_or_len_is (bytes_eq w) vars i [] (omega arith)
     (λ k lower. false_unless _ _ (bytes_eq-Decides w (get_or vars k [])).0 (λ same. distinct k i [] lower below (sym same)))
     (λ _. (bytes_eq-Decides w w).1 refl))
 
-pub name_at_place : (names : Names) (w : List ℕ) (k : ℕ) → name_place names w ≡ Some k → (k < length names.vars.items) × (get_or names.vars.items k [] ≡ w)
+pub name_at_place : (names : Names) (w : List ℕ) (k : ℕ) → name_place names w ≡ Some k → (k < length names.vars) × (get_or names.vars k [] ≡ w)
 name_at_place names w k h =
-    let found = position-Some (bytes_eq w) names.vars.items k [] h in
-    (found.0, sym ((bytes_eq-Decides w (get_or names.vars.items k [])).0 found.1))
+    let found = position-Some (bytes_eq w) names.vars k [] h in
+    (found.0, sym ((bytes_eq-Decides w (get_or names.vars k [])).0 found.1))
 
 module _ (names : Names) where
-  variable_named : (i : ℕ) → i < length names.vars.items → variable_at names i ≡ Named (get_or names.vars.items i [])
-  variable_named i below = rw (lt-ltb i (length names.vars.items) below) refl
+  variable_named : (i : ℕ) → i < length names.vars → variable_at names i ≡ Named (get_or names.vars i [])
+  variable_named i below = rw (lt-ltb i (length names.vars) below) refl
 
-  variable_primary : (i : ℕ) → length names.vars.items ≤ i → i < length names.vars.items + count_of names.primaries → variable_at names i ≡ Marked Primary (i - length names.vars.items + 1)
-  variable_primary i high below = rw (le-ltb i (length names.vars.items) high, lt-ltb i (length names.vars.items + count_of names.primaries) below) refl
+  variable_primary : (i : ℕ) → length names.vars ≤ i → i < length names.vars + count_of names.primaries → variable_at names i ≡ Marked Primary (i - length names.vars + 1)
+  variable_primary i high below = rw (le-ltb i (length names.vars) high, lt-ltb i (length names.vars + count_of names.primaries) below) refl
 
-  variable_irreducible : (i : ℕ) → length names.vars.items + count_of names.primaries ≤ i → variable_at names i ≡ Marked Irreducible (i - (length names.vars.items + count_of names.primaries) + 1)
+  variable_irreducible : (i : ℕ) → length names.vars + count_of names.primaries ≤ i → variable_at names i ≡ Marked Irreducible (i - (length names.vars + count_of names.primaries) + 1)
   variable_irreducible i high =
-      let low : length names.vars.items ≤ i = omega arith in
-      rw (le-ltb i (length names.vars.items) low, le-ltb i (length names.vars.items + count_of names.primaries) high) refl
+      let low : length names.vars ≤ i = omega arith in
+      rw (le-ltb i (length names.vars) low, le-ltb i (length names.vars + count_of names.primaries) high) refl
 
   -- the variable is known, its index is within, and it has this place
   pub record StandsAt (v : Variable) (i : ℕ) : Type 0 where
@@ -64,7 +64,7 @@ module _ (names : Names) where
   -- the variable at a place stands there
   pub variable_stands : (i : ℕ) → AreDistinct names → i < place_count names → StandsAt (variable_at names i) i
   variable_stands i distinct below =
-      let n = length names.vars.items in
+      let n = length names.vars in
       let r = count_of names.primaries in
       elim (cases_lt i n) as (λ _. StandsAt (variable_at names i) i) [
         | inl low ↦ subst (λ v. StandsAt v i) (sym (variable_named i low)) (record {
@@ -94,18 +94,18 @@ module _ (names : Names) where
       named None e h = absurd cc
       named (Some k) e h =
           let found = name_at_place names w k e in
-          let low : k < length names.vars.items = found.0 in
+          let low : k < length names.vars = found.0 in
           let small : k < place_count names = omega arith in
           let here : variable_at names k ≡ Named w = variable_named k low ∙ ap Named found.1 in
           subst (λ o. (variable_at names (count_of o) ≡ Named w) × (count_of o < place_count names)) (sym e) (here, small)
   variable_at_place (Marked Primary j) short known within =
-      let n = length names.vars.items in
+      let n = length names.vars in
       let positive : 1 ≤ j = short.0 in
       let small : j ≤ count_of names.primaries = leb-true _ _ within in
       let back : n + (j - 1) - n + 1 ≡ j = omega arith in
       (variable_primary (n + (j - 1)) (omega arith) (omega arith) ∙ ap (Marked Primary) back, omega arith)
   variable_at_place (Marked Irreducible j) short known within =
-      let n = length names.vars.items in
+      let n = length names.vars in
       let r = count_of names.primaries in
       let positive : 1 ≤ j = short.0 in
       let small : j ≤ count_of names.irreducibles = leb-true _ _ within in
@@ -114,9 +114,9 @@ module _ (names : Names) where
   variable_at_place (Marked Secondary j) short known within = absurd cc
 
   -- the variable at a place is one of the grammar, where its index is short
-  pub variable_is_one : (i : ℕ) → All (λ w. IsTrue (is_name w)) names.vars.items → IsIndexed (variable_at names i) → IsVariable (variable_at names i)
+  pub variable_is_one : (i : ℕ) → All (λ w. IsTrue (is_name w)) names.vars → IsIndexed (variable_at names i) → IsVariable (variable_at names i)
   variable_is_one i each indexed =
-      let n = length names.vars.items in
+      let n = length names.vars in
       let r = count_of names.primaries in
       elim (cases_lt i n) as (λ _. IsVariable (variable_at names i)) [
         | inl low ↦ subst IsVariable (sym (variable_named i low)) (each i [] low)

@@ -27,13 +27,13 @@ count_of None = 0
 count_of (Some n) = n
 
 abbrev pub place_count : Names → ℕ
-place_count names = length names.vars.items + (count_of names.primaries + count_of names.irreducibles)
+place_count names = length names.vars + (count_of names.primaries + count_of names.irreducibles)
 
 abbrev pub variable_at : Names → ℕ → Variable
 variable_at names i =
-    let n = length names.vars.items in
+    let n = length names.vars in
     let r = count_of names.primaries in
-    if nat_lt i n then Named (get_or names.vars.items i []) else if nat_lt i (n + r) then Marked Primary (i - n + 1) else Marked Irreducible (i - (n + r) + 1)
+    if nat_lt i n then Named (get_or names.vars i []) else if nat_lt i (n + r) then Marked Primary (i - n + 1) else Marked Irreducible (i - (n + r) + 1)
 
 abbrev pub factors_from : (ℕ → Variable) → ℕ → List ℕ → List Factor
 factors_from v i [] = []

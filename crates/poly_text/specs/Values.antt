@@ -46,7 +46,7 @@ use Rattle.poly_text.specs.Syntax.{Variable, Named, Marked, Factor, Term}
 use Rattle.poly_text.specs.Texts.{count_of, place_count, variable_at}
 
 abbrev pub name_place : Names → List ℕ → Option ℕ
-name_place names w = position (bytes_eq w) names.vars.items
+name_place names w = position (bytes_eq w) names.vars
 
 abbrev pub is_known : Names → Variable → Bool
 is_known names (Named w) = is_some (name_place names w)
@@ -62,8 +62,8 @@ is_within names (Marked Secondary j) = true
 
 abbrev pub place : Names → Variable → ℕ
 place names (Named w) = count_of (name_place names w)
-place names (Marked Primary j) = length names.vars.items + (j - 1)
-place names (Marked Irreducible j) = length names.vars.items + count_of names.primaries + (j - 1)
+place names (Marked Primary j) = length names.vars + (j - 1)
+place names (Marked Irreducible j) = length names.vars + count_of names.primaries + (j - 1)
 place names (Marked Secondary j) = 0
 
 abbrev pub rise : List ℕ → Bool
@@ -149,7 +149,7 @@ Faults (Ok x) fault = fault ≡ None
 Faults (Err e) fault = IsFault e fault
 
 abbrev pub AreDistinct : Names → Type 0
-AreDistinct names = AllPairs (λ v w. v ≢ w) names.vars.items
+AreDistinct names = AllPairs (λ v w. v ≢ w) names.vars
 
 abbrev pub IsIndexed : Variable → Type 0
 IsIndexed (Named w) = Unit {0}

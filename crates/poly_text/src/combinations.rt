@@ -41,7 +41,7 @@ pub fn print_comb<O: TermOrder>(
 
 /// The primary invariants alone, `@1` to `@n`.
 fn primaries(alloc: Global, n: u64) -> Names
-    ensures vars { result.vars.items ≡ [] }
+    ensures vars { result.vars ≡ [] }
     ensures primaries { result.primaries ≡ Some n }
     ensures irreducibles { result.irreducibles ≡ None }
 {
@@ -77,7 +77,7 @@ fn push_combination_term(
 ) -> Result<(), Memory>
     requires below { term.now.coef < p }
     requires low { term.now.at.pos + 1 < 2 ^ 64 }
-    requires vars { names.now.vars.items ≡ [] }
+    requires vars { names.now.vars ≡ [] }
     requires primaries { names.now.primaries ≡ Some (length term.now.at.mono) }
     ensures is { IfOk result (λ _. text.new.items ≡ text.old.items ++ term_text is_first (combination_term p (entry (λ m. m) term.now))) }
 {
