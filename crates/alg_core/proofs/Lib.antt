@@ -12,3 +12,5 @@ pub mod BlockKeys
 pub mod OnesLaws
 pub mod KeyMultiples
 pub mod VectorEntries
+pub mod NumberTests
+pub mod PolynomialSpaces
