@@ -1,12 +1,14 @@
 -- How all monomials of a degree come from those of the degree below.
-use Rattle.std.proofs.Common.{◌≡◌, ℕ, zero, suc, ◌+◌, ◌-◌, ◌<◌, ◌≤◌, inl, List, [], ◌∷◌, ◌++◌, length, map, get_or, take, drop, replicate, All, refl, sym, ap, ap₂, subst, ◌∙◌, arith, drop-cons, append_assoc}
-use Rattle.std.specs.List.{flat_map}
+use Rattle.std.proofs.Common.{◌≡◌, ℕ, zero, suc, ◌+◌, ◌-◌, ◌<◌, ◌≤◌, ◌⊎◌, inl, inr, List, [], ◌∷◌, ◌++◌, length, map, get_or, take, drop, replicate, All, refl, sym, ap, ap₂, subst, ◌∙◌, arith, drop-cons, append_assoc}
+use Rattle.std.specs.List.{flat_map, AllByRecursion as Each}
+use Rattle.std.proofs.lemmas.List.Elements.{All-from_recursion, recursion_from_All}
 use Rattle.std.proofs.lemmas.List.{append-nil, drop_all, map-append, length-replicate, get_or-map, length-map}
 use Rattle.alg_core.specs.ExponentLists.{product}
-use Rattle.alg_core.specs.Lists.{In}
+use Rattle.alg_core.specs.Lists.{In, in_left, in_right}
+use Rattle.alg_core.proofs.Members.{in_cases}
 use Rattle.poly_module.specs.GreatestExponents.{total}
-use Rattle.poly_module.proofs.GreatestValues.{take_map}
 use Rattle.lin_algebra.proofs.CutLaws.{listing}
+use Rattle.lin_algebra.proofs.EachLaws.{Each_append, Each_append_left, Each_append_right}
 use Rattle.invariant_space.specs.declared.columns.Column.{Column}
 use Rattle.invariant_space.specs.Levels.{unit_exponents, reach, raised, IsLevel}
 use Rattle.invariant_space.proofs.ListLaws.{in_flat, in_listing, all_flat, all_listing, flat_push}
@@ -90,6 +92,30 @@ level_more n d l h = record {
     all : (b : List ℕ) → length b ≡ n → Lowered b d → In b (flat_map raised l)
     all b w r = in_flat raised l r.below b (h.all r.below (r.wide ∙ w) r.degree) (subst (λ c. In c (raised r.below)) (sym r.is) (in_listing (λ i. product r.below (unit_exponents (length r.below) i)) (reach r.below) r.place r.within))
 
+-- it does not matter in which order they stand
+level_swap : (n d : ℕ) (xs ys zs : List (List ℕ)) → IsLevel n d ((xs ++ ys) ++ zs) → IsLevel n d (xs ++ (zs ++ ys))
+level_swap n d xs ys zs h = record { each = All-from_recursion P (xs ++ (zs ++ ys)) each; all = λ b w e. there b (in_cases b (xs ++ ys) zs (h.all b w e)) }
+  where
+    P : List ℕ → Type 0
+    P a = (length a ≡ n) × (total a ≡ d)
+
+    whole : Each P ((xs ++ ys) ++ zs)
+    whole = recursion_from_All P ((xs ++ ys) ++ zs) h.each
+
+    front : Each P (xs ++ ys)
+    front = Each_append_left P (xs ++ ys) zs whole
+
+    each : Each P (xs ++ (zs ++ ys))
+    each = Each_append P xs (zs ++ ys) (Each_append_left P xs ys front) (Each_append P zs ys (Each_append_right P (xs ++ ys) zs whole) (Each_append_right P xs ys front))
+
+    there : (b : List ℕ) → In b (xs ++ ys) ⊎ In b zs → In b (xs ++ (zs ++ ys))
+    there b (inr i) = in_right b xs (zs ++ ys) (in_left b zs ys i)
+    there b (inl i) = within (in_cases b xs ys i)
+      where
+        within : In b xs ⊎ In b ys → In b (xs ++ (zs ++ ys))
+        within (inl j) = in_left b xs (zs ++ ys) j
+        within (inr j) = in_right b xs (zs ++ ys) (in_right b zs ys j)
+
 module _ {E : Type 0} where
   abbrev monomial : Column E → List ℕ
   monomial c = c.at.mono
@@ -107,11 +133,14 @@ module _ {E : Type 0} where
       ap (map monomial) more ∙ map-append monomial above (x ∷ []) ∙ ap₂ (λ l m. l ++ m ∷ []) was (is ∙ ap (λ m. product a (unit_exponents m i)) (sym wide))
       ∙ append_assoc (map monomial old) (listing f i) (f i ∷ []) ∙ ap (λ m. map monomial old ++ listing f m) next
 
-  -- the products of one column more
-  pub level_step : (cs above new : List (Column E)) (i : ℕ) (x : Column E) → i < length cs → x ≡ get_or cs i x → map (λ c. c.at.mono) new ≡ map (λ c. c.at.mono) above ++ raised x.at.mono
-      → map (λ c. c.at.mono) above ≡ flat_map raised (map (λ c. c.at.mono) (take i cs)) → map (λ c. c.at.mono) new ≡ flat_map raised (map (λ c. c.at.mono) (take (i + 1) cs))
-  level_step cs above new i x inside read more was =
-      more ∙ ap (λ l. l ++ raised x.at.mono) was ∙ sym (flat_push raised (map monomial (take i cs)) x.at.mono) ∙ ap (flat_map raised) (sym (take_map monomial cs i x inside read))
+  -- the products of the last column that is left
+  pub level_rest : (n d : ℕ) (left rest above new : List (Column E)) (c : Column E) → left ≡ rest ++ c ∷ [] → map (λ c. c.at.mono) new ≡ map (λ c. c.at.mono) above ++ raised c.at.mono
+      → IsLevel n d (flat_map raised (map (λ c. c.at.mono) left) ++ map (λ c. c.at.mono) above) → IsLevel n d (flat_map raised (map (λ c. c.at.mono) rest) ++ map (λ c. c.at.mono) new)
+  level_rest n d left rest above new c last more h =
+      let split : flat_map raised (map monomial left) ≡ flat_map raised (map monomial rest) ++ raised c.at.mono
+      = ap (λ l. flat_map raised (map monomial l)) last ∙ ap (flat_map raised) (map-append monomial rest (c ∷ [])) ∙ flat_push raised (map monomial rest) c.at.mono in
+      subst (λ l. IsLevel n d (flat_map raised (map monomial rest) ++ l)) (sym more)
+      (level_swap n d (flat_map raised (map monomial rest)) (raised c.at.mono) (map monomial above) (subst (λ l. IsLevel n d (l ++ map monomial above)) split h))
 
   -- the degrees of the columns
   pub level_degrees : (n d : ℕ) (cs : List (Column E)) → d < 12288 → IsLevel n d (map (λ c. c.at.mono) cs) → All (λ c. total c.at.mono < 12288) cs

@@ -2,23 +2,15 @@
 use Rattle.std.proofs.Common.{◌≡◌, ◌⊎◌, ℕ, zero, suc, ◌<◌, ◌≤◌, inl, inr, List, [], ◌∷◌, ◌++◌, map, length, get_or, All, refl, sym, ap, subst, ◌∙◌, arith, append_assoc}
 use Rattle.std.specs.List.{flat_map}
 use Rattle.std.proofs.lemmas.Bool.{cases_lt}
+use Rattle.std.proofs.lemmas.Grind.{flat_map-append}
 use Rattle.std.proofs.lemmas.List.{append-nil, map-append}
 use Rattle.std.proofs.lemmas.List.Elements.{All-append, All-push}
-use Rattle.alg_core.specs.Lists.{In}
+use Rattle.alg_core.specs.Lists.{In, in_left, in_right}
 use Rattle.lin_algebra.proofs.CutLaws.{listing}
 
 -- what holds of all elements holds of the one at a place
 pub element : {A : Type 0} (P : A → Type 0) (l : List A) (i : ℕ) (x : A) → All P l → i < length l → x ≡ get_or l i x → P x
 element P l i x all inside read = subst P (sym read) (all i x inside)
-
-pub in_left : {A : Type 0} (x : A) (l r : List A) → In x l → In x (l ++ r)
-in_left x [] r h = absurd h
-in_left x (y ∷ l) r (inl e) = inl e
-in_left x (y ∷ l) r (inr h) = inr (in_left x l r h)
-
-pub in_right : {A : Type 0} (x : A) (l r : List A) → In x r → In x (l ++ r)
-in_right x [] r h = h
-in_right x (y ∷ l) r h = inr (in_right x l r h)
 
 pub in_listing : {A : Type 0} (f : ℕ → A) (n i : ℕ) → i < n → In (f i) (listing f n)
 in_listing f zero i h = absurd (omega arith)
@@ -42,8 +34,7 @@ all_flat P f [] h = λ i d w. absurd (omega arith)
 all_flat P f (x ∷ l) h = All-append P (f x) (flat_map f l) (h 0 x (omega arith)) (all_flat P f l (λ i d w. h (suc i) d (omega arith)))
 
 pub flat_push : {A B : Type 0} (f : A → List B) (l : List A) (x : A) → flat_map f (l ++ x ∷ []) ≡ flat_map f l ++ f x
-flat_push f [] x = append-nil (f x)
-flat_push f (y ∷ l) x = ap (λ m. f y ++ m) (flat_push f l x) ∙ sym (append_assoc (f y) (flat_map f l) (f x))
+flat_push f l x = flat_map-append f l (x ∷ []) ∙ ap (λ m. flat_map f l ++ m) (append-nil (f x))
 
 pub map_listing : {A B : Type 0} (f : A → B) (g : ℕ → A) (n : ℕ) → map f (listing g n) ≡ listing (λ i. f (g i)) n
 map_listing f g zero = refl

@@ -1,5 +1,4 @@
-ghost use Rattle.std.specs.Prelude.{◌≡◌, ◌<◌, ◌≤◌, ◌++◌, All, IfOk, OnOk, length, map};
-ghost use Rattle.std.specs.List.{flat_map};
+ghost use Rattle.std.specs.Prelude.{◌≡◌, ◌<◌, ◌≤◌, ◌+◌, ◌++◌, ℕ, All, IfOk, OnOk, length, map};
 ghost use Rattle.alg_core.specs.Spaces.{over};
 ghost use Rattle.poly_module.specs.GreatestExponents.{total};
 ghost use Rattle.poly_module.specs.SpaceVectors.{HasPolynomials};
@@ -46,23 +45,25 @@ fn push_products<F: Field, O: TermOrder>(
     Ok(())
 }
 
-/// The monomials of the next degree: each one comes from its quotient by the first variable in it.
+/// The monomials of the next degree: each one comes from its quotient by the first variable in it. A
+/// column is let go as soon as its products are made.
 fn next<F: Field, O: TermOrder>(
     alloc: Global,
     space: &Space<F, O>,
     gens: &[Matrix<F::Elem>],
-    columns: &[Column<F::Elem>],
+    mut columns: Vec<Column<F::Elem>>,
 ) -> Result<Vec<Column<F::Elem>>, Memory>
     requires polynomials { HasPolynomials (over F.field O.order space.now) }
     requires square { All (IsSquare (F.field space.now.field) (length space.now.grading.weights.items)) gens.now }
-    requires columns { All (IsColumn (over F.field O.order space.now) gens.now) columns.now }
-    requires degree { All (λ c. total c.at.mono < 12288) columns.now }
+    requires columns { All (IsColumn (over F.field O.order space.now) gens.now) columns.items }
+    requires degree { All (λ c. total c.at.mono < 12288) columns.items }
     ensures columns { let S = over F.field O.order space.now in IfOk result (λ cs. All (IsColumn S gens.now) cs.items) }
-    ensures monomials { IfOk result (λ cs. map (λ c. c.at.mono) cs.items ≡ flat_map raised (map (λ c. c.at.mono) columns.now)) }
+    ensures level { let n = length space.now.grading.weights.items in IfOk result (λ cs. (d : ℕ)
+        → IsLevel n d (map (λ c. c.at.mono) columns.items) → IsLevel n (d + 1) (map (λ c. c.at.mono) cs.items)) }
 {
     let mut above = Vec::new(alloc);
-    for column in columns {
-        push_products(alloc, space, gens, column, &mut above)?;
+    while let Some(column) = columns.pop() {
+        push_products(alloc, space, gens, &column, &mut above)?;
     }
     Ok(above)
 }
@@ -83,7 +84,7 @@ pub(crate) fn level<F: Field, O: TermOrder>(
     let mut level = Vec::new(alloc);
     level.push(constant(alloc, space, gens)?)?;
     for _below in 0..d {
-        level = next(alloc, space, gens, &level)?;
+        level = next(alloc, space, gens, level)?;
     }
     Ok(level)
 }

@@ -1,12 +1,11 @@
 use Rattle.std.proofs.Common.{◌≡◌, ◌<◌, ◌+◌, ◌∙◌, ◌++◌, ◌∷◌, [], ap, map, subst, sym, arith, length}
 use Rattle.std.specs.Prelude.{All}
-use Rattle.std.specs.List.{flat_map}
 use Rattle.std.proofs.lemmas.List.Elements.{All-push}
 use Rattle.poly_module.specs.GreatestExponents.{total}
 use Rattle.alg_core.specs.Spaces.{over}
 use Rattle.invariant_space.specs.Columns.{IsColumn}
-use Rattle.invariant_space.specs.Levels.{IsLevel, raised}
-use Rattle.invariant_space.proofs.LevelLaws.{level_none, level_more, level_degrees}
+use Rattle.invariant_space.specs.Levels.{IsLevel}
+use Rattle.invariant_space.proofs.LevelLaws.{level_none, level_degrees}
 use Rattle.invariant_space.proofs.levels.level.Goals as goal
 
 pub loop-below-init : goal.loop-below-init
@@ -18,24 +17,13 @@ loop-below-init g c =
       level = subst (IsLevel (length S.weights) 0) (sym (ap (map (λ c. c.at.mono)) (c.in_ok-push.ensures.items ∙ ap (λ l. l ++ c.in_ok-constant.field-0 ∷ []) c.new-level.ensures.items) ∙ ap (λ a. a ∷ []) c.in_ok-constant.ensures.mono)) (level_none (length S.weights));
     }
 
-pub next-requires-clause-columns : goal.next-requires-clause-columns
-next-requires-clause-columns g c =
-    let S = over g.F.Field.field g.O.TermOrder.order c.args.space.now in
-    subst (All (IsColumn S c.args.gens.now)) (sym c.deref.ensures.value) c.loop-below.invariant.columns
-
 pub next-requires-clause-degree : goal.next-requires-clause-degree
 next-requires-clause-degree g c =
     let S = over g.F.Field.field g.O.TermOrder.order c.args.space.now in
-    subst (All (λ c. total c.at.mono < 12288)) (sym c.deref.ensures.value) (level_degrees (length S.weights) c.loop-below._below c.loop-below.level.items (omega (arith, c.requires.degree, c.loop-below-test.true)) c.loop-below.invariant.level)
+    level_degrees (length S.weights) c.loop-below._below c.loop-below.level.items (omega (arith, c.requires.degree, c.loop-below-test.true)) c.loop-below.invariant.level
 
 pub loop-below-preserved : goal.loop-below-preserved
-loop-below-preserved g c =
-    let S = over g.F.Field.field g.O.TermOrder.order c.args.space.now in
-    record {
-      columns = c.in_ok-level.ensures.columns;
-      level = subst (IsLevel (length S.weights) (c.loop-below._below + 1)) (sym (c.in_ok-level.ensures.monomials ∙ ap (λ l. flat_map raised (map (λ c. c.at.mono) l)) c.deref.ensures.value))
-          (level_more (length S.weights) c.loop-below._below (map (λ c. c.at.mono) c.loop-below.level.items) c.loop-below.invariant.level);
-    }
+loop-below-preserved g c = record { columns = c.in_ok-level.ensures.columns; level = c.in_ok-level.ensures.level c.loop-below._below c.loop-below.invariant.level }
 
 pub returns-clause-level : goal.returns-clause-level
 returns-clause-level g c =
