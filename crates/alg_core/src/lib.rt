@@ -17,8 +17,6 @@ mod order;
 mod place;
 mod space;
 mod term;
-#[cfg(test)]
-mod tests;
 mod value_kind;
 mod zero;
 

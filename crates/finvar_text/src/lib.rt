@@ -4,12 +4,8 @@
 mod fault;
 mod laws;
 mod read;
-#[cfg(test)]
-mod read_tests;
 mod scan;
 mod scan_symbols;
-#[cfg(test)]
-mod scan_tests;
 mod scan_tokens;
 mod scan_words;
 mod script;

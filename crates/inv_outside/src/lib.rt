@@ -14,6 +14,3 @@ pub use ends::{Failed, Sink, Source};
 pub use memory::{MemSink, MemSource};
 pub use streams::{StdSink, StdSource};
 pub use whole::{ReadFault, read_all, write_all};
-
-#[cfg(test)]
-mod tests;

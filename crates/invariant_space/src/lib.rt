@@ -10,8 +10,6 @@ mod laws;
 mod levels;
 mod polynomials;
 mod sorted;
-#[cfg(test)]
-mod tests;
 
 pub use fault::SpaceFault;
 pub use invariants::basis;

@@ -18,6 +18,3 @@ pub use error_line::write_error;
 pub use status::{BoundFault, Status};
 pub use top_call::run;
 pub use words::{Command, Request, words_ask_once};
-
-#[cfg(test)]
-mod tests;

@@ -16,6 +16,3 @@ pub use laws::{echelon_is_unique, solution_is_greedy, solution_is_unique};
 pub use matrix::{Echelon, Matrix};
 pub use products::multiply;
 pub use systems::solve;
-
-#[cfg(test)]
-mod tests;

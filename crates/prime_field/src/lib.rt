@@ -6,6 +6,3 @@ mod inverse;
 mod product;
 
 pub use gfp::{NotListed, PrimeField};
-
-#[cfg(test)]
-mod tests;
