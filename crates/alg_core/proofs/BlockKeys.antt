@@ -7,7 +7,7 @@ use Rattle.std.proofs.lemmas.Bool.Decides.{nat_tests}
 use Rattle.std.proofs.lemmas.Cmp.{tied_itself, on_total, lists_total, back_total, nat_cmp_total}
 use native.Mathlib.Decide.{dec_le}
 use Rattle.alg_core.specs.Monomials.{mono, exponent_mono, exponents, length_exponents, mono_exponents, beyond}
-use Rattle.alg_core.specs.Keys.{Place, Key, key}
+use Rattle.alg_core.specs.Keys.{TermPlace, Key, key}
 use Rattle.alg_core.specs.PlaceOrders.{PlaceOrder}
 use Rattle.alg_core.specs.DpOrder.{weighted_degree, reverse_lexicographic, dp_compare, dp_order}
 use Rattle.alg_core.specs.BlockOrder.{block_order, length_ones}
@@ -43,7 +43,7 @@ module _ (first : ℕ) (ws : List ℕ) where
 
   in_one_block : (s t : Key) → nat_lt s.0 first ≡ nat_lt t.0 first → key_compare (length ws) (elimination_order first ws) s t ≡ key_compare (length ws) (dp_order ws) s t
   unfolding key_compare place_of beyond_of
-  in_one_block s t e = let p : Place = (s.0, exponents (length ws) s.1.0) in let q : Place = (t.0, exponents (length ws) t.1.0) in
+  in_one_block s t e = let p : TermPlace = (s.0, exponents (length ws) s.1.0) in let q : TermPlace = (t.0, exponents (length ws) t.1.0) in
       ap (ordering_then _) (ap (λ b. ordering_then (nat_cmp (cond b 1 0) (cond (nat_lt t.0 first) 1 0)) (dp_compare ws p q)) e
       ∙ ap (λ o. ordering_then o (dp_compare ws p q)) (tied_itself nat_cmp_total (cond (nat_lt t.0 first) 1 0)))
 
@@ -86,10 +86,10 @@ less_test : (x y : ℕ) → x < y → nat_cmp x y ≡ Less
 less_test x y h = grind (arith, nat_tests)
 
 module _ (n : ℕ) (ws : List ℕ) where
-  abbrev front : Key → Place
+  abbrev front : Key → TermPlace
   front t = (0, exponents n t.1.0)
 
-  abbrev back : Key → Place
+  abbrev back : Key → TermPlace
   back t = (t.0, exponents (length ws) (beyond n t.1.0))
 
   -- the variables first, then the marks

@@ -4,7 +4,7 @@ use Rattle.std.specs.declared.cmp.Ordering.TheVariants.{Less, Greater}
 use Rattle.std.specs.Ordering.{ordering_reverse}
 use Rattle.alg_core.specs.Fields.{Scalar, scalars, is_field, scalar, scalar_injective, scalar_not_zero}
 use Rattle.alg_core.specs.FreeModules.{coef, coef_class}
-use Rattle.alg_core.specs.Keys.{Place, Key, key, key_same, key_injective}
+use Rattle.alg_core.specs.Keys.{TermPlace, Key, key, key_same, key_injective}
 use Rattle.alg_core.specs.PlaceOrders.{PlaceOrder}
 use Rattle.alg_core.specs.CanonicalLists.{AllBelow, IsCanonical, IsLead, canonical_unique, terms, terms_class}
 use Rattle.alg_core.specs.Leads.{lead_head}
@@ -14,30 +14,30 @@ use Rattle.alg_core.specs.SpaceOrder.{key_order, key_compare_places}
 use Rattle.alg_core.proofs.VectorLaws.{coef_at_zero}
 
 module _ (o : PlaceOrder) where
-  pub less_turned : (p q : Place) → o.compare p q ≡ Less → o.compare q p ≡ Greater
+  pub less_turned : (p q : TermPlace) → o.compare p q ≡ Less → o.compare q p ≡ Greater
   less_turned p q e = o.total.antisymm q p ∙ ap ordering_reverse e
 
-  pub greater_turned : (p q : Place) → o.compare p q ≡ Greater → o.compare q p ≡ Less
+  pub greater_turned : (p q : TermPlace) → o.compare p q ≡ Greater → o.compare q p ≡ Less
   greater_turned p q e = o.total.antisymm q p ∙ ap ordering_reverse e
 
-  pub greater_transitive : (p q r : Place) → o.compare p q ≡ Greater → o.compare q r ≡ Greater → o.compare p r ≡ Greater
+  pub greater_transitive : (p q r : TermPlace) → o.compare p q ≡ Greater → o.compare q r ≡ Greater → o.compare p r ≡ Greater
   greater_transitive p q r pq qr = less_turned r p (o.total.trans r q p (greater_turned q r qr) (greater_turned p q pq))
 
 module _ {E : Type 0} (S : SpaceOver E) where
   -- what is above the first is above all
-  pub above_more : (p q : Place) (es : List (Entry E)) → S.order.compare p q ≡ Greater → IsAbove S q es → IsAbove S p es
+  pub above_more : (p q : TermPlace) (es : List (Entry E)) → S.order.compare p q ≡ Greater → IsAbove S q es → IsAbove S p es
   above_more p q [] g a = tt
   above_more p q (f ∷ fs) g a = (greater_transitive S.order p q f.0 g a.0, above_more p q fs g a.1)
 
-  pub above_append : (p : Place) (xs ys : List (Entry E)) → IsAbove S p xs → IsAbove S p ys → IsAbove S p (xs ++ ys)
+  pub above_append : (p : TermPlace) (xs ys : List (Entry E)) → IsAbove S p xs → IsAbove S p ys → IsAbove S p (xs ++ ys)
   above_append p [] ys hx hy = hy
   above_append p (x ∷ xs) ys hx hy = (hx.0, above_append p xs ys hx.1 hy)
 
-  pub above_front : (p : Place) (xs ys : List (Entry E)) → IsAbove S p (xs ++ ys) → IsAbove S p xs
+  pub above_front : (p : TermPlace) (xs ys : List (Entry E)) → IsAbove S p (xs ++ ys) → IsAbove S p xs
   above_front p [] ys h = tt
   above_front p (x ∷ xs) ys h = (h.0, above_front p xs ys h.1)
 
-  pub above_back : (p : Place) (xs ys : List (Entry E)) → IsAbove S p (xs ++ ys) → IsAbove S p ys
+  pub above_back : (p : TermPlace) (xs ys : List (Entry E)) → IsAbove S p (xs ++ ys) → IsAbove S p ys
   above_back p [] ys h = h
   above_back p (x ∷ xs) ys h = above_back p xs ys h.1
 
@@ -68,7 +68,7 @@ module _ {E : Type 0} (S : SpaceOver E) where
       (s.0, above_append x.0 made (f ∷ xs) (above_front x.0 made (e ∷ xs) s.1) (subst (λ p. S.order.compare x.0 p ≡ Greater) same back.0, back.1), fits_revalue made e f xs same h s.2)
 
   -- entries that fall are keys that fall
-  below_formal_sum : (p : Place) (es : List (Entry E)) → IsPlace S p → Fits S es → IsAbove S p es → AllBelow (scalars S.field) (is_field S.field) key_same (key_order S) (key p) (formal_sum S.field es)
+  below_formal_sum : (p : TermPlace) (es : List (Entry E)) → IsPlace S p → Fits S es → IsAbove S p es → AllBelow (scalars S.field) (is_field S.field) key_same (key_order S) (key p) (formal_sum S.field es)
   below_formal_sum p [] hp h a = tt
   below_formal_sum p (e ∷ es) hp h a = (key_compare_places _ S.order e.0 p h.0.place.wide hp.wide ∙ greater_turned S.order p e.0 a.0, below_formal_sum p es hp h.2 a.1)
 

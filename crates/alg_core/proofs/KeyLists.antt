@@ -5,7 +5,7 @@ use Rattle.std.specs.declared.cmp.Ordering.{Ordering}
 use Rattle.std.specs.declared.cmp.Ordering.TheVariants.{Less, Equal, Greater}
 use Rattle.std.proofs.lemmas.Bool.Decides.{nat_tests}
 use Rattle.alg_core.specs.Monomials.{mono, exponent_mono, exponents, exponents_all, mono_exponents}
-use Rattle.alg_core.specs.Keys.{Place, Key, key}
+use Rattle.alg_core.specs.Keys.{TermPlace, Key, key}
 use Rattle.alg_core.specs.KeyOrders.{OrderOn, less_irreflexive, less_asymmetric, greater_less}
 use Rattle.alg_core.specs.Lists.{In, map_in, pairs, in_pairs, numbers_below, in_numbers_below}
 use Rattle.alg_core.specs.Spaces.{SpaceOver}
@@ -129,7 +129,7 @@ passes : (x d : ℕ) → x ≤ d → nat_le x d ≡ true
 passes x d h = grind (arith, nat_tests)
 
 module _ (ws ss : List ℕ) (d : ℕ) where
-  pub from_places_up_to : (p : Place) → In p (places_up_to ws ss d) → (length p.1 ≡ length ws) × (p.0 < length ss) × (place_degree ws ss p ≤ d)
+  pub from_places_up_to : (p : TermPlace) → In p (places_up_to ws ss d) → (length p.1 ≡ length ws) × (p.0 < length ss) × (place_degree ws ss p ≤ d)
   unfolding places_up_to
   from_places_up_to p h = go (from_filter (λ q. nat_le (place_degree ws ss q) d) p _ h)
     where
@@ -143,7 +143,7 @@ module _ (ws ss : List ℕ) (d : ℕ) where
       (in_pairs (λ q a. (q, a)) q (exponents (length ws) a) (numbers_below (length ss)) (exponent_lists (length ws) d) (in_numbers_below q (length ss) low) (in_exponent_lists_degree ws (length ws) d a positive h))
       (passes _ _ high)
 
-  pub places_up_to_exact : AllPositive ws → (p : Place) → In p (places_up_to ws ss d) ↔ ((length p.1 ≡ length ws) × (p.0 < length ss) × (place_degree ws ss p ≤ d))
+  pub places_up_to_exact : AllPositive ws → (p : TermPlace) → In p (places_up_to ws ss d) ↔ ((length p.1 ≡ length ws) × (p.0 < length ss) × (place_degree ws ss p ≤ d))
   places_up_to_exact positive p = (
     from_places_up_to p,
     λ h.
@@ -154,7 +154,7 @@ module _ (ws ss : List ℕ) (d : ℕ) where
 
 module _ {E : Type 0} (S : SpaceOver E) where
   -- the degree of a place is that of its key
-  pub degree_place : (p : Place) → degree S (key p) ≡ place_degree S.weights S.shifts p
+  pub degree_place : (p : TermPlace) → degree S (key p) ≡ place_degree S.weights S.shifts p
   unfolding degree key
   degree_place p = ap (λ d. d + height S.shifts p.0) (weight_ext S.weights 0 (mono p.1).0 p.1 (exponent_mono p.1))
 

@@ -3,7 +3,7 @@ use Rattle.std.proofs.Common.{◌≡◌, ◌≢◌, ◌↔◌, ℕ, ◌==◌, Bo
 use Rattle.std.proofs.lemmas.Bool.Decides.{nat_tests}
 use Rattle.alg_core.specs.ExponentLists.{quotient, lcm, divides}
 use Rattle.alg_core.specs.Monomials.{monomials, mono, Divides}
-use Rattle.alg_core.specs.Keys.{Place, Key, key, times_key, KeyDivides}
+use Rattle.alg_core.specs.Keys.{TermPlace, Key, key, times_key, KeyDivides}
 use Rattle.alg_core.specs.CommonMultiples.{common_multiple, lcm_left, lcm_right, lcm_least}
 use Rattle.alg_core.proofs.MonomialLists.{mono_lcm, mono_divides, divides_mono, mono_quotient}
 
@@ -22,7 +22,7 @@ key_lcm_right s t p = key_divides t (common_multiple s t) (sym p) (lcm_right s.1
 pub key_lcm_least : (s t u : Key) → KeyDivides s u → KeyDivides t u → KeyDivides (common_multiple s t) u
 key_lcm_least s t u p q = key_divides (common_multiple s t) u (ap (λ r. r.0) p.1) (lcm_least s.1 t.1 u.1 (divides_key s u p) (divides_key t u q))
 
-module _ (p q : Place) (same : length p.1 ≡ length q.1) where
+module _ (p q : TermPlace) (same : length p.1 ≡ length q.1) where
   -- at one position the test of the monomials is divisibility of keys
   pub place_divides : p.0 ≡ q.0 → (r : Bool) → r ≡ divides p.1 q.1 → IsTrue r ↔ KeyDivides (key p) (key q)
   unfolding key

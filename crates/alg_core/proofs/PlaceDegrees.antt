@@ -2,7 +2,7 @@
 use Rattle.std.proofs.Common.{◌≡◌, ℕ, zero, suc, ◌+◌, ◌*◌, ◌<◌, ◌≤◌, List, [], ◌∷◌, length, get_or, refl, ap, ap₂, ◌∙◌, arith}
 use Rattle.alg_core.specs.DpOrder.{weighted_degree}
 use Rattle.alg_core.specs.Monomials.{mono, exponent_mono}
-use Rattle.alg_core.specs.Keys.{Place, key}
+use Rattle.alg_core.specs.Keys.{TermPlace, key}
 use Rattle.alg_core.specs.Spaces.{SpaceOver}
 use Rattle.alg_core.specs.ExponentLists.{Within}
 use Rattle.alg_core.specs.SpaceGrading.{AllPositive, weight, weight_ext, height, degree}
@@ -20,7 +20,7 @@ height_shift [] q h = absurd (omega arith)
 height_shift (s ∷ ss) zero h = refl
 height_shift (s ∷ ss) (suc q) h = height_shift ss q (omega arith)
 
-pub degree_key : {E : Type 0} (S : SpaceOver E) (p : Place) → length p.1 ≡ length S.weights → p.0 < length S.shifts → degree S (key p) ≡ weighted_degree S.weights p.1 + get_or S.shifts p.0 0
+pub degree_key : {E : Type 0} (S : SpaceOver E) (p : TermPlace) → length p.1 ≡ length S.weights → p.0 < length S.shifts → degree S (key p) ≡ weighted_degree S.weights p.1 + get_or S.shifts p.0 0
 unfolding degree key
 degree_key S p wide low = ap₂ (λ d h. d + h) (weight_ext S.weights 0 (mono p.1).0 p.1 (exponent_mono p.1) ∙ weight_weighted_degree S.weights 0 p.1 wide) (height_shift S.shifts p.0 low)
 

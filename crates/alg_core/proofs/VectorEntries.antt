@@ -5,7 +5,7 @@ use Rattle.alg_core.specs.FormalSums.{FormalSum, regular, coefficient}
 use Rattle.alg_core.specs.FreeModules.{class, coef_class}
 use Rattle.alg_core.specs.Fields.{Scalar, scalars, is_field, scalar, scalar_ext, scalar_value, scalar_of_value}
 use Rattle.alg_core.specs.Monomials.{exponents, length_exponents, exponents_mono, mono_exponents}
-use Rattle.alg_core.specs.Keys.{Place, Key, key, key_same}
+use Rattle.alg_core.specs.Keys.{TermPlace, Key, key, key_same}
 use Rattle.alg_core.specs.KeyOrders.{OrderOn}
 use Rattle.alg_core.specs.Lists.{In}
 use Rattle.alg_core.specs.CanonicalLists.{AllBelow, IsCanonical, indicator_no, coefficient_head, coefficient_below, terms, terms_canonical, class_terms}
@@ -92,7 +92,7 @@ module _ {E : Type 0} (S : SpaceOver E) where
   unfolding entries_of
   entries_of_vec es h = ap (map (entry_of S)) (terms_vec S es h) ∙ entries_back es h
 
-  in_space : (p : Place) → IsPlace S p → InSpace S (key p)
+  in_space : (p : TermPlace) → IsPlace S p → InSpace S (key p)
   unfolding key
   in_space p h = record {
     fits = ap (S.order.fits p.0) (sym h.wide) ∙ h.fits;

@@ -6,7 +6,7 @@ use Rattle.alg_core.specs.Rings.{Linear}
 use Rattle.alg_core.specs.Fields.{FieldOn, Has, scalars, scalar, scalar_add, scalar_mul, scalar_neg, scalar_zero}
 use Rattle.alg_core.specs.FreeModules.{single, class, extend_linear, extend_single, coef_ext, coef_add, coef_act, coef_zero, class_append, class_nothing, class_cons, class_twice, class_zero}
 use Rattle.alg_core.specs.Monomials.{Mon, mono}
-use Rattle.alg_core.specs.Keys.{Place, Key, key, key_same, times_key}
+use Rattle.alg_core.specs.Keys.{TermPlace, Key, key, key_same, times_key}
 use Rattle.alg_core.specs.PlaceOrders.{times_place}
 use Rattle.alg_core.proofs.MonomialLists.{mono_product}
 use Rattle.alg_core.specs.Vectors.{Entry, Vect, vectors, formal_sum, vec, coef_at, plus, zero_vector, scale, shift}
@@ -68,12 +68,12 @@ module _ {E : Type 0} (k : FieldOn E) where
   vec_cons e l = vec_append (e ∷ []) l
 
   -- two entries at one place are one
-  pub vec_twice : (p : Place) (a b : E) → Has k a → Has k b → plus k (vec k ((p, a) ∷ [])) (vec k ((p, b) ∷ [])) ≡ vec k ((p, k.add a b) ∷ [])
+  pub vec_twice : (p : TermPlace) (a b : E) → Has k a → Has k b → plus k (vec k ((p, a) ∷ [])) (vec k ((p, b) ∷ [])) ≡ vec k ((p, k.add a b) ∷ [])
   unfolding plus vec
   vec_twice p a b h g = sym (class_append (scalars k) key_same _ _) ∙ class_twice (scalars k) key_same (key p) _ _ ∙ ap (λ c. class (scalars k) key_same ((key p, c) ∷ [])) (sym (scalar_add k a b h g))
 
   -- an entry of 0 is nothing
-  pub vec_zero : (p : Place) → vec k ((p, k.zero) ∷ []) ≡ zero_vector k
+  pub vec_zero : (p : TermPlace) → vec k ((p, k.zero) ∷ []) ≡ zero_vector k
   unfolding vec zero_vector
   vec_zero p = ap (λ c. class (scalars k) key_same ((key p, c) ∷ [])) (scalar_zero k) ∙ class_zero (scalars k) key_same (key p) ∙ class_nothing (scalars k) key_same
 
@@ -94,7 +94,7 @@ module _ {E : Type 0} (k : FieldOn E) where
   unfolding scale zero_vector
   scale_zero x = ap (λ d. (vectors k).◌·◌ d x) (scalar_zero k) ∙ (vectors k).zero_act x
 
-  pub scale_entry : (c : E) (p : Place) (a : E) → Has k c → Has k a → scale k c (vec k ((p, a) ∷ [])) ≡ vec k ((p, k.mul c a) ∷ [])
+  pub scale_entry : (c : E) (p : TermPlace) (a : E) → Has k c → Has k a → scale k c (vec k ((p, a) ∷ [])) ≡ vec k ((p, k.mul c a) ∷ [])
   unfolding scale
   scale_entry c p a h g = ap ((vectors k).◌·◌ (scalar k c)) (vec_single (p, a)) ∙ sym ((vectors k).mul_act _ _ _) ∙ ap (λ d. (vectors k).◌·◌ d (single (scalars k) key_same (key p))) (sym (scalar_mul k c a h g)) ∙ sym (vec_single (p, k.mul c a))
 
@@ -120,6 +120,6 @@ module _ {E : Type 0} (k : FieldOn E) where
   shift_single m t = extend_single (scalars k) key_same (vectors k) _ t
 
   -- one entry times a monomial
-  pub shift_entry : (m : List ℕ) (p : Place) (a : E) → length m ≡ length p.1 → shift k (mono m) (vec k ((p, a) ∷ [])) ≡ vec k ((times_place m p, a) ∷ [])
+  pub shift_entry : (m : List ℕ) (p : TermPlace) (a : E) → length m ≡ length p.1 → shift k (mono m) (vec k ((p, a) ∷ [])) ≡ vec k ((times_place m p, a) ∷ [])
   unfolding key
   shift_entry m p a e = ap (shift k (mono m)) (vec_single (p, a)) ∙ (shift_linear (mono m)).act _ _ ∙ ap ((vectors k).◌·◌ (scalar k a)) (shift_single (mono m) (key p) ∙ ap (λ n. single (scalars k) key_same (p.0, n)) (sym (mono_product m p.1 e))) ∙ sym (vec_single (times_place m p, a))

@@ -10,12 +10,12 @@ use Rattle.std.specs.Cmp.{IsTotalOrder}
 use Rattle.std.proofs.Common.{sym, ap, ap₂, ◌∙◌, refl, arith}
 use Rattle.std.proofs.lemmas.Cmp.{on_total, then_total}
 use Rattle.alg_core.specs.ExponentLists.{product}
-use Rattle.alg_core.specs.Keys.{Place}
+use Rattle.alg_core.specs.Keys.{TermPlace}
 use Rattle.alg_core.specs.PlaceOrders.{PlaceOrder, times_place}
 use Rattle.alg_core.specs.DpOrder.{all_positive, dp_compare, dp_total, dp_tied, then_tied, dp_kept, dp_alike, dp_no_smaller, length_from_test}
 
 -- the first n exponents by dp, the others by weighted dp, then the earlier position
-abbrev pub block_compare : ℕ → List ℕ → Place → Place → Ordering
+abbrev pub block_compare : ℕ → List ℕ → TermPlace → TermPlace → Ordering
 block_compare n ws = then_cmp (on (λ a. (0, take n a.1)) (dp_compare (replicate n 1))) (on (λ a. (a.0, drop n a.1)) (dp_compare ws))
 
 pub block_total : (n : ℕ) (ws : List ℕ) → IsTotalOrder (block_compare n ws)
@@ -36,7 +36,7 @@ split (suc n) (x ∷ a) (y ∷ b) p q = ap₂ ◌∷◌ (ap head p) (split n a b
     tail [] = []
     tail (z ∷ l) = l
 
-pub block_tied : (n : ℕ) (ws : List ℕ) (a b : Place) → block_compare n ws a b ≡ Equal → a ≡ b
+pub block_tied : (n : ℕ) (ws : List ℕ) (a b : TermPlace) → block_compare n ws a b ≡ Equal → a ≡ b
 block_tied n ws a b e =
     let both = then_tied _ _ e in
     let front = dp_tied (replicate n 1) (0, take n a.1) (0, take n b.1) both.0 in
@@ -69,7 +69,7 @@ same_drop (suc n) [] (y ∷ a) e = absurd (omega arith)
 same_drop (suc n) (x ∷ m) [] e = absurd (omega arith)
 same_drop (suc n) (x ∷ m) (y ∷ a) e = same_drop n m a (omega arith)
 
-pub block_kept : (n : ℕ) (ws m : List ℕ) (a b : Place) → length m ≡ length a.1 → length m ≡ length b.1 → block_compare n ws (times_place m a) (times_place m b) ≡ block_compare n ws a b
+pub block_kept : (n : ℕ) (ws m : List ℕ) (a b : TermPlace) → length m ≡ length a.1 → length m ≡ length b.1 → block_compare n ws (times_place m a) (times_place m b) ≡ block_compare n ws a b
 block_kept n ws m a b p q = ap₂ ordering_then
     (ap₂ (dp_compare (replicate n 1)) (ap (λ l. (0, l)) (take_product n m a.1)) (ap (λ l. (0, l)) (take_product n m b.1)) ∙ dp_kept (replicate n 1) (take n m) (0, take n a.1) (0, take n b.1) (same_take n m a.1 p) (same_take n m b.1 q))
     (ap₂ (dp_compare ws) (ap (λ l. (a.0, l)) (drop_product n m a.1 p)) (ap (λ l. (b.0, l)) (drop_product n m b.1 q)) ∙ dp_kept ws (drop n m) (a.0, drop n a.1) (b.0, drop n b.1) (same_drop n m a.1 p) (same_drop n m b.1 q))
@@ -97,7 +97,7 @@ length_others zero k a e = e ∙ omega arith
 length_others (suc n) k [] e = absurd (omega arith)
 length_others (suc n) k (x ∷ a) e = length_others n k a (omega arith)
 
-pub block_no_smaller : (n : ℕ) (ws m : List ℕ) (p : Place) → all_positive ws ≡ true → length p.1 ≡ n + length ws → length m ≡ length p.1 → block_compare n ws (times_place m p) p ≢ Less
+pub block_no_smaller : (n : ℕ) (ws m : List ℕ) (p : TermPlace) → all_positive ws ≡ true → length p.1 ≡ n + length ws → length m ≡ length p.1 → block_compare n ws (times_place m p) p ≢ Less
 block_no_smaller n ws m p positive long same less = then_less _ _ less
     (λ e. dp_no_smaller (replicate n 1) (take n m) (0, take n p.1) (ones_positive n) (length_first n (length ws) p.1 long ∙ sym (length_ones n)) (same_take n m p.1 same) (sym (ap (λ l. dp_compare (replicate n 1) (0, l) (0, take n p.1)) (take_product n m p.1)) ∙ e))
     (λ e. dp_no_smaller ws (drop n m) (p.0, drop n p.1) positive (length_others n (length ws) p.1 long) (same_drop n m p.1 same) (sym (ap (λ l. dp_compare ws (p.0, l) (p.0, drop n p.1)) (drop_product n m p.1 same)) ∙ e))

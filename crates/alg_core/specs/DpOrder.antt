@@ -19,7 +19,7 @@ use Rattle.std.proofs.lemmas.Grind.{reverse_onto}
 use Rattle.std.proofs.lemmas.Map.Lookups.{exact_unsigned}
 use Rattle.std.proofs.lemmas.Bool.Decides.{nat_tests}
 use Rattle.alg_core.specs.ExponentLists.{product}
-use Rattle.alg_core.specs.Keys.{Place}
+use Rattle.alg_core.specs.Keys.{TermPlace}
 use Rattle.alg_core.specs.PlaceOrders.{PlaceOrder, times_place}
 
 -- the sum of the exponents, each times its weight
@@ -33,7 +33,7 @@ abbrev pub reverse_lexicographic : List ℕ → List ℕ → Ordering
 reverse_lexicographic = on reverse (slice_cmp (flip_args nat_cmp))
 
 -- the greater degree, then the reverse lexicographic order, then the earlier position
-abbrev pub dp_compare : List ℕ → Place → Place → Ordering
+abbrev pub dp_compare : List ℕ → TermPlace → TermPlace → Ordering
 dp_compare ws = then_cmp (on (λ a. weighted_degree ws a.1) nat_cmp) (then_cmp (on (λ a. a.1) reverse_lexicographic) (on (λ a. a.0) (flip_args nat_cmp)))
 
 -- no weight is 0
@@ -79,7 +79,7 @@ reverse_product (a ∷ xs) (b ∷ ys) h =
 lex_kept : (m a b : List ℕ) → length m ≡ length a → length m ≡ length b → reverse_lexicographic (product m a) (product m b) ≡ reverse_lexicographic a b
 lex_kept m a b p q = ap₂ (slice_cmp (flip_args nat_cmp)) (reverse_product m a p) (reverse_product m b q) ∙ flip_shift (reverse m) (reverse a) (reverse b) (length-reverse m ∙ p ∙ sym (length-reverse a)) (length-reverse m ∙ q ∙ sym (length-reverse b))
 
-pub dp_kept : (ws m : List ℕ) (a b : Place) → length m ≡ length a.1 → length m ≡ length b.1 → dp_compare ws (times_place m a) (times_place m b) ≡ dp_compare ws a b
+pub dp_kept : (ws m : List ℕ) (a b : TermPlace) → length m ≡ length a.1 → length m ≡ length b.1 → dp_compare ws (times_place m a) (times_place m b) ≡ dp_compare ws a b
 dp_kept ws m a b p q = ap₂ ordering_then (ap₂ nat_cmp (weighted_degree_product ws m a.1 p) (weighted_degree_product ws m b.1 q) ∙ nat_cmp_shift (weighted_degree ws m) (weighted_degree ws a.1) (weighted_degree ws b.1)) (ap₂ ordering_then (lex_kept m a.1 b.1 p q) refl)
 
 -- two comparisons, one after the other, tie exactly where both do
@@ -96,7 +96,7 @@ exact_flip (x ∷ xs) (y ∷ ys) h =
     let both = then_tied (nat_cmp y x) (slice_cmp (flip_args nat_cmp) xs ys) h in
     ap (λ z. z ∷ xs) (sym (exact_unsigned y x both.0)) ∙ ap (λ l. y ∷ l) (exact_flip xs ys both.1)
 
-pub dp_tied : (ws : List ℕ) (a b : Place) → dp_compare ws a b ≡ Equal → a ≡ b
+pub dp_tied : (ws : List ℕ) (a b : TermPlace) → dp_compare ws a b ≡ Equal → a ≡ b
 dp_tied ws a b h =
     let tied = then_tied (nat_cmp (weighted_degree ws a.1) (weighted_degree ws b.1)) (ordering_then (reverse_lexicographic a.1 b.1) (nat_cmp b.0 a.0)) h in
     let places = then_tied (reverse_lexicographic a.1 b.1) (nat_cmp b.0 a.0) tied.1 in
@@ -126,7 +126,7 @@ cmp_more x y h = grind (arith, nat_tests)
 cmp_tied : (x y : ℕ) → nat_cmp (y + x) x ≡ Equal → y ≡ 0
 cmp_tied x y h = grind (arith, nat_tests)
 
-pub dp_no_smaller : (ws m : List ℕ) (a : Place) → all_positive ws ≡ true → length a.1 ≡ length ws → length m ≡ length a.1 → dp_compare ws (times_place m a) a ≢ Less
+pub dp_no_smaller : (ws m : List ℕ) (a : TermPlace) → all_positive ws ≡ true → length a.1 ≡ length ws → length m ≡ length a.1 → dp_compare ws (times_place m a) a ≢ Less
 dp_no_smaller ws m a pos la lm less =
     let grown : nat_cmp (weighted_degree ws (product m a.1)) (weighted_degree ws a.1) ≡ nat_cmp (weighted_degree ws m + weighted_degree ws a.1) (weighted_degree ws a.1) = ap (λ x. nat_cmp x (weighted_degree ws a.1)) (weighted_degree_product ws m a.1 lm) in
     elim (nat_cmp (weighted_degree ws (product m a.1)) (weighted_degree ws a.1)) as (λ o. nat_cmp (weighted_degree ws (product m a.1)) (weighted_degree ws a.1) ≡ o → ⊥) [

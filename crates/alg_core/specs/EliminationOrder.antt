@@ -9,24 +9,24 @@ use Rattle.std.specs.Ordering.{nat_cmp, on, then_cmp, ordering_then}
 use Rattle.std.specs.Cmp.{IsTotalOrder}
 use Rattle.std.proofs.Common.{sym, ap, ◌∙◌}
 use Rattle.std.proofs.lemmas.Cmp.{on_total, then_total, nat_cmp_total, tied_itself}
-use Rattle.alg_core.specs.Keys.{Place}
+use Rattle.alg_core.specs.Keys.{TermPlace}
 use Rattle.alg_core.specs.PlaceOrders.{PlaceOrder, times_place}
 use Rattle.alg_core.specs.DpOrder.{all_positive, dp_compare, dp_total, dp_tied, then_tied, dp_kept, dp_alike, dp_no_smaller, length_from_test}
 
 -- the positions of the first block are greater; then dp of the monomials, then the earlier position
-abbrev pub elimination_compare : ℕ → List ℕ → Place → Place → Ordering
+abbrev pub elimination_compare : ℕ → List ℕ → TermPlace → TermPlace → Ordering
 elimination_compare first ws = then_cmp (on (λ a. cond (nat_lt a.0 first) 1 0) nat_cmp) (dp_compare ws)
 
 pub elimination_total : (first : ℕ) (ws : List ℕ) → IsTotalOrder (elimination_compare first ws)
 elimination_total first ws = then_total (on_total (λ a. cond (nat_lt a.0 first) 1 0) nat_cmp_total) (dp_total ws)
 
-pub elimination_tied : (first : ℕ) (ws : List ℕ) (a b : Place) → elimination_compare first ws a b ≡ Equal → a ≡ b
+pub elimination_tied : (first : ℕ) (ws : List ℕ) (a b : TermPlace) → elimination_compare first ws a b ≡ Equal → a ≡ b
 elimination_tied first ws a b e = dp_tied ws a b (then_tied _ _ e).1
 
-pub elimination_kept : (first : ℕ) (ws m : List ℕ) (a b : Place) → length m ≡ length a.1 → length m ≡ length b.1 → elimination_compare first ws (times_place m a) (times_place m b) ≡ elimination_compare first ws a b
+pub elimination_kept : (first : ℕ) (ws m : List ℕ) (a b : TermPlace) → length m ≡ length a.1 → length m ≡ length b.1 → elimination_compare first ws (times_place m a) (times_place m b) ≡ elimination_compare first ws a b
 elimination_kept first ws m a b p q = ap (ordering_then (nat_cmp (cond (nat_lt a.0 first) 1 0) (cond (nat_lt b.0 first) 1 0))) (dp_kept ws m a b p q)
 
-pub elimination_no_smaller : (first : ℕ) (ws m : List ℕ) (p : Place) → all_positive ws ≡ true → length p.1 ≡ length ws → length m ≡ length p.1 → elimination_compare first ws (times_place m p) p ≢ Less
+pub elimination_no_smaller : (first : ℕ) (ws m : List ℕ) (p : TermPlace) → all_positive ws ≡ true → length p.1 ≡ length ws → length m ≡ length p.1 → elimination_compare first ws (times_place m p) p ≢ Less
 elimination_no_smaller first ws m p positive long same less =
     dp_no_smaller ws m p positive long same (sym (ap (λ o. ordering_then o (dp_compare ws (times_place m p) p)) (tied_itself nat_cmp_total (cond (nat_lt p.0 first) 1 0))) ∙ less)
 

@@ -11,7 +11,7 @@
 use Rattle.std.specs.Prelude.{◌≡◌, ℕ, ◌+◌, ◌<◌, ◌≤◌, ◌==◌, true, nat_le, List, [], ◌∷◌, length, map, filter}
 use Rattle.std.specs.declared.cmp.Ordering.{Ordering}
 use Rattle.std.specs.declared.cmp.Ordering.TheVariants.{Less, Equal, Greater}
-use Rattle.alg_core.specs.Keys.{Place, Key, key}
+use Rattle.alg_core.specs.Keys.{TermPlace, Key, key}
 use Rattle.alg_core.specs.KeyOrders.{OrderOn}
 use Rattle.alg_core.specs.Lists.{In, pairs, numbers_below}
 use Rattle.alg_core.specs.Spaces.{SpaceOver}
@@ -39,11 +39,11 @@ module _ {T : Type 0} (o : OrderOn T) where
   sorted (t ∷ l) = inserted t (sorted l)
 
 -- its weighted degree and its shift
-abbrev pub place_degree : List ℕ → List ℕ → Place → ℕ
+abbrev pub place_degree : List ℕ → List ℕ → TermPlace → ℕ
 place_degree ws ss p = weight ws 0 p.1 + height ss p.0
 
 -- no exponent is above the degree
-unfoldable pub places_up_to : List ℕ → List ℕ → ℕ → List Place
+unfoldable pub places_up_to : List ℕ → List ℕ → ℕ → List TermPlace
 places_up_to ws ss d = filter (λ p. nat_le (place_degree ws ss p) d) (pairs (λ q a. (q, a)) (numbers_below (length ss)) (exponent_lists (length ws) d))
 
 module _ {E : Type 0} (S : SpaceOver E) where

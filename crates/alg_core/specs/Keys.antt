@@ -1,7 +1,7 @@
 -- Where a coefficient of a vector stands: a position and a monomial. One type of keys serves all spaces.
 --
---   Place             a position and a list of exponents, as a term of a space has them
---   Key               a position and a monomial
+--   TermPlace         a position and a list of exponents, as a term of a space has them
+--   Key               a module monomial, here called a key: a position and a monomial
 --   key p             the key of a place
 --   keys              the keys as a monoid: positions add, so that position 0 is that of polynomials
 --   times_key m t     the monomial m times the key t
@@ -15,8 +15,8 @@ use Rattle.alg_core.specs.Rings.{Monoid}
 use Rattle.alg_core.specs.Monomials.{Mon, monomials, mono, mon_same, mon_cancel, Divides, divides_dec, mono_injective}
 
 -- a position and exponents
-abbrev pub Place : Type 0
-Place = ℕ × List ℕ
+abbrev pub TermPlace : Type 0
+TermPlace = ℕ × List ℕ
 
 -- a position and a monomial
 abbrev pub Key : Type 0
@@ -26,11 +26,11 @@ pub key_same : (s t : Key) → Dec (s ≡ t)
 key_same s t = ×_discrete ℕ_discrete mon_same s t
 
 -- the key of a place
-unfoldable pub key : Place → Key
+unfoldable pub key : TermPlace → Key
 key p = (p.0, mono p.1)
 
 -- places with exponents for equally many variables and with one key are one place
-pub key_injective : (p q : Place) → length p.1 ≡ length q.1 → key p ≡ key q → p ≡ q
+pub key_injective : (p q : TermPlace) → length p.1 ≡ length q.1 → key p ≡ key q → p ≡ q
 unfolding key
 key_injective p q l e = ap₂ (λ i a. (i, a)) (ap (λ u. u.0) e) (mono_injective p.1 q.1 l (ap (λ u. u.1) e))
 

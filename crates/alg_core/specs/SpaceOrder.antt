@@ -15,7 +15,7 @@ use Rattle.std.proofs.lemmas.Map.Lookups.{exact_unsigned}
 use Rattle.std.proofs.lemmas.Bool.Decides.{nat_tests}
 use Rattle.alg_core.specs.ExponentLists.{product}
 use Rattle.alg_core.specs.Monomials.{Mon, monomials, mono, exponent, trimmed, trimmed_cons, trimmed_ext, added, exponent_added, exponent_mul, exponent_mono, mon_is, exponents, length_exponents, exponents_ext, exponents_mono, beyond}
-use Rattle.alg_core.specs.Keys.{Place, Key, key, times_key}
+use Rattle.alg_core.specs.Keys.{TermPlace, Key, key, times_key}
 use Rattle.alg_core.specs.PlaceOrders.{PlaceOrder}
 use Rattle.alg_core.specs.DpOrder.{then_tied}
 use Rattle.alg_core.specs.KeyOrders.{OrderOn}
@@ -121,7 +121,7 @@ module _ (n : ℕ) (o : PlaceOrder) where
   nothing_beyond a e = beyond_ext n _ a (exponent_mono a) ∙ ap trimmed (nothing_beyond_list n a e)
 
   -- the position and the first n exponents
-  unfoldable pub place_of : Key → Place
+  unfoldable pub place_of : Key → TermPlace
   place_of t = (t.0, exponents n t.1.0)
 
   -- the other exponents
@@ -170,7 +170,7 @@ module _ (n : ℕ) (o : PlaceOrder) where
   key_alike i a b = ap (ordering_then (slice_cmp nat_cmp (trimmed (beyond n a.0)) (trimmed (beyond n b.0)))) (o.alike i (exponents n a.0) (exponents n b.0))
 
   -- on places with n exponents the order of the keys is that of the places
-  pub key_compare_places : (p q : Place) → length p.1 ≡ n → length q.1 ≡ n → key_compare (key p) (key q) ≡ o.compare p q
+  pub key_compare_places : (p q : TermPlace) → length p.1 ≡ n → length q.1 ≡ n → key_compare (key p) (key q) ≡ o.compare p q
   unfolding key_compare place_of beyond_of key
   key_compare_places p q e f = ap₂ ordering_then
       (ap₂ (slice_cmp nat_cmp) (nothing_beyond p.1 e) (nothing_beyond q.1 f))

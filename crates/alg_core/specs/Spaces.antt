@@ -12,7 +12,7 @@
 use Rattle.std.specs.Prelude.{◌≡◌, ◌≢◌, ◌<◌, ℕ, List, [], ◌∷◌, map, length}
 use Rattle.std.specs.declared.cmp.Ordering.TheVariants.{Greater}
 use Rattle.alg_core.specs.Fields.{FieldOn, Has}
-use Rattle.alg_core.specs.Keys.{Place}
+use Rattle.alg_core.specs.Keys.{TermPlace}
 use Rattle.alg_core.specs.PlaceOrders.{PlaceOrder, FitsAt}
 use Rattle.alg_core.specs.Vectors.{Entry}
 use Rattle.alg_core.specs.declared.space.Space.{Space}
@@ -31,7 +31,7 @@ abbrev pub over : {F O E : Type 0} → (F → FieldOn E) → (O → PlaceOrder) 
 over field order s = record { field = field s.field; order = order s.order; weights = s.grading.weights.items; shifts = s.grading.shifts.items }
 
 -- the place of a term, whose monomial is read by exps
-abbrev pub place : {M : Type 0} → (M → List ℕ) → ModTerm M → Place
+abbrev pub place : {M : Type 0} → (M → List ℕ) → ModTerm M → TermPlace
 place exps t = (t.pos, exps t.mono)
 
 -- its entry
@@ -44,7 +44,7 @@ entries exps ts = map (entry exps) ts
 
 module _ {E : Type 0} (S : SpaceOver E) where
   -- a place of the space: it fits the order, has an exponent for each weight, and its position has a shift
-  pub record IsPlace (p : Place) : Type 0 where
+  pub record IsPlace (p : TermPlace) : Type 0 where
     pub fits : FitsAt S.order p
     pub wide : length p.1 ≡ length S.weights
     pub low : p.0 < length S.shifts
@@ -56,7 +56,7 @@ module _ {E : Type 0} (S : SpaceOver E) where
     pub place : IsPlace e.0
 
   -- each entry is at a smaller place
-  abbrev pub IsAbove : Place → List (Entry E) → Type 0
+  abbrev pub IsAbove : TermPlace → List (Entry E) → Type 0
   IsAbove p [] = Unit {0}
   IsAbove p (e ∷ es) = (S.order.compare p e.0 ≡ Greater) × IsAbove p es
 

@@ -12,11 +12,11 @@ use Rattle.alg_core.specs.Fields.{FieldOn, Scalar, scalars, scalar}
 use Rattle.alg_core.specs.FormalSums.{FormalSum, Free}
 use Rattle.alg_core.specs.FreeModules.{class, free, single, extend, coef}
 use Rattle.alg_core.specs.Monomials.{Mon}
-use Rattle.alg_core.specs.Keys.{Place, Key, key, key_same, times_key}
+use Rattle.alg_core.specs.Keys.{TermPlace, Key, key, key_same, times_key}
 
 -- a value at a place
 abbrev pub Entry : Type 0 → Type 0
-Entry E = Place × E
+Entry E = TermPlace × E
 
 module _ {E : Type 0} (k : FieldOn E) where
   -- the finite maps from keys to scalars

@@ -5,7 +5,7 @@ ghost use Rattle.std.specs.Int.{◌∣◌};
 ghost use Rattle.alg_core.specs.Fields.{Scalar, scalars, is_field, ones};
 ghost use Rattle.alg_core.specs.FormalSums.{FormalSum};
 ghost use Rattle.alg_core.specs.FreeModules.{single, class};
-ghost use Rattle.alg_core.specs.Keys.{Place, Key, key_same, KeyDivides};
+ghost use Rattle.alg_core.specs.Keys.{TermPlace, Key, key_same, KeyDivides};
 ghost use Rattle.alg_core.specs.KeyOrders.{OrderOn};
 ghost use Rattle.alg_core.specs.CanonicalLists.{IsCanonical, IsLead, terms};
 ghost use Rattle.alg_core.specs.Vectors.{Entry, Vect, vectors, formal_sum, vec, plus, zero_vector, coef_at};
@@ -142,7 +142,7 @@ pub fn key_lists<F: Field, O: TermOrder>(_space: &Space<F, O>)
         → (d : ℕ) (t : Key) → In t (keys_up_to S d) ↔ (InSpace S t × (degree S t ≤ d)) }
     ensures of_degree { let S = over F.field O.order _space.now in AllPositive S.weights
         → (d : ℕ) (t : Key) → In t (keys_of_degree S d) ↔ (InSpace S t × (degree S t ≡ d)) }
-    ensures places { (ws ss : List ℕ) (d : ℕ) → AllPositive ws → (p : Place) → In p (places_up_to ws ss d)
+    ensures places { (ws ss : List ℕ) (d : ℕ) → AllPositive ws → (p : TermPlace) → In p (places_up_to ws ss d)
         ↔ ((length p.1 ≡ length ws) × (p.0 < length ss) × (place_degree ws ss p ≤ d)) }
     ensures up_to_falls { let S = over F.field O.order _space.now in (d : ℕ) → Falls (key_order S) (keys_up_to S d) }
     ensures of_degree_falls { let S = over F.field O.order _space.now in (d : ℕ) → Falls (key_order S) (keys_of_degree S d) }

@@ -9,7 +9,7 @@ use Rattle.std.proofs.lemmas.List.Elements.{All-from_recursion}
 use Rattle.alg_core.specs.RingLaws as rings
 use Rattle.alg_core.specs.Fields.{FieldOn, Has, scalars, scalar, scalar_zero}
 use Rattle.alg_core.specs.CanonicalLists.{indicator_yes}
-use Rattle.alg_core.specs.Keys.{Place, Key, key, key_same, key_injective}
+use Rattle.alg_core.specs.Keys.{TermPlace, Key, key, key_same, key_injective}
 use Rattle.alg_core.specs.KeyOrders.{greater_less, less_irreflexive, less_asymmetric}
 use Rattle.alg_core.specs.Lists.{In}
 use Rattle.alg_core.specs.Vectors.{Entry, vec, coef_at}
@@ -51,7 +51,7 @@ module _ {E : Type 0} (S : SpaceOver E) where
   length_by Equal a taken left n h g = ap suc h
   length_by Greater a taken left n h g = ap suc g
 
-  pub spread_length : (es : List (Entry E)) (ps : List Place) → length (spread S es ps) ≡ length ps
+  pub spread_length : (es : List (Entry E)) (ps : List TermPlace) → length (spread S es ps) ≡ length ps
   spread_length [] [] = refl
   spread_length (e ∷ es) [] = refl
   spread_length [] (p ∷ ps) = ap suc (spread_length [] ps)
@@ -62,7 +62,7 @@ module _ {E : Type 0} (S : SpaceOver E) where
   has_by Equal a taken left h t l = (h, t)
   has_by Greater a taken left h t l = (S.field.has_zero, l)
 
-  pub spread_has : (es : List (Entry E)) (ps : List Place) → Fits S es → Each (Has S.field) (spread S es ps)
+  pub spread_has : (es : List (Entry E)) (ps : List TermPlace) → Fits S es → Each (Has S.field) (spread S es ps)
   spread_has [] [] h = tt
   spread_has (e ∷ es) [] h = tt
   spread_has [] (p ∷ ps) h = (S.field.has_zero, spread_has [] ps h)
@@ -77,7 +77,7 @@ module _ {E : Type 0} (S : SpaceOver E) where
   abbrev Smaller : Key → Key → Type 0
   Smaller s t = (key_order S).compare s t ≡ Less
 
-  above_each : (p : Place) (es : List (Entry E)) → length p.1 ≡ length S.weights → Fits S es → IsAbove S p es → Each (λ f. Smaller (key f.0) (key p)) es
+  above_each : (p : TermPlace) (es : List (Entry E)) → length p.1 ≡ length S.weights → Fits S es → IsAbove S p es → Each (λ f. Smaller (key f.0) (key p)) es
   above_each p [] w fits above = tt
   above_each p (e ∷ es) w fits above =
       (greater_less (key_order S) (key p) (key e.0) (key_compare_places (length S.weights) S.order p e.0 w fits.0.place.wide ∙ above.0), above_each p es w fits.2 above.1)
@@ -86,21 +86,21 @@ module _ {E : Type 0} (S : SpaceOver E) where
   smaller_other s t l e = less_irreflexive (key_order S) s t e l
 
   -- a key that is not the first is later
-  later : (p : Place) (ps : List Place) (es : List (Entry E)) → Each (λ f. In (key f.0) (key p ∷ map key ps)) es → Each (λ f. ¬ (key f.0 ≡ key p)) es → Each (λ f. In (key f.0) (map key ps)) es
+  later : (p : TermPlace) (ps : List TermPlace) (es : List (Entry E)) → Each (λ f. In (key f.0) (key p ∷ map key ps)) es → Each (λ f. ¬ (key f.0 ≡ key p)) es → Each (λ f. In (key f.0) (map key ps)) es
   later p ps = Each_both (λ f. In (key f.0) (key p ∷ map key ps)) (λ f. ¬ (key f.0 ≡ key p)) (λ f. In (key f.0) (map key ps)) (λ f i n. go f i n)
     where
       go : (f : Entry E) → In (key f.0) (key p ∷ map key ps) → ¬ (key f.0 ≡ key p) → In (key f.0) (map key ps)
       go f (inl e) n = absurd (n (sym e))
       go f (inr i) n = i
 
-  place_there : (ps : List Place) (s : ℕ) (b : Place) → s < length ps → b ≡ get_or ps s b → In (key b) (map key ps)
+  place_there : (ps : List TermPlace) (s : ℕ) (b : TermPlace) → s < length ps → b ≡ get_or ps s b → In (key b) (map key ps)
   place_there [] s b h e = absurd (omega arith)
   place_there (p ∷ ps) zero b h e = inl (ap key (sym e))
   place_there (p ∷ ps) (suc s) b h e = inr (place_there ps s b (omega arith) e)
 
   -- the value at a place is the coefficient at its key
-  pub spread_is : (es : List (Entry E)) (ps : List Place) → Fits S es → Falls (key_order S) (map key ps) → Each (λ p. length p.1 ≡ length S.weights) ps → Each (λ e. In (key e.0) (map key ps)) es
-      → (s : ℕ) (b : Place) → s < length ps → b ≡ get_or ps s b → scalar S.field (get_or (spread S es ps) s S.field.zero) ≡ coef_at S.field (vec S.field es) (key b)
+  pub spread_is : (es : List (Entry E)) (ps : List TermPlace) → Fits S es → Falls (key_order S) (map key ps) → Each (λ p. length p.1 ≡ length S.weights) ps → Each (λ e. In (key e.0) (map key ps)) es
+      → (s : ℕ) (b : TermPlace) → s < length ps → b ≡ get_or ps s b → scalar S.field (get_or (spread S es ps) s S.field.zero) ≡ coef_at S.field (vec S.field es) (key b)
   spread_is es [] fits falls wide there s b h read = absurd (omega arith)
   spread_is [] (p ∷ ps) fits falls wide there zero b h read = scalar_zero S.field ∙ sym (coef_none S.field [] (key b) tt)
   spread_is [] (p ∷ ps) fits falls wide there (suc s) b h read = spread_is [] ps fits falls.1 wide.1 tt s b (omega arith) read
@@ -114,7 +114,7 @@ module _ {E : Type 0} (S : SpaceOver E) where
       past s w r q = smaller_other (key b) (key p) (each_in (λ t. Smaller t (key p)) (map key ps) falls.0 (key b) (place_there ps s b w r)) (sym q)
 
       met : e.0 ≡ p
-          → (Each (λ f. In (key f.0) (map key ps)) es → (s : ℕ) (b : Place) → s < length ps → b ≡ get_or ps s b → scalar S.field (get_or (spread S es ps) s S.field.zero) ≡ coef_at S.field (vec S.field es) (key b))
+          → (Each (λ f. In (key f.0) (map key ps)) es → (s : ℕ) (b : TermPlace) → s < length ps → b ≡ get_or ps s b → scalar S.field (get_or (spread S es ps) s S.field.zero) ≡ coef_at S.field (vec S.field es) (key b))
           → (s : ℕ) → s < length (p ∷ ps) → b ≡ get_or (p ∷ ps) s b → scalar S.field (get_or (e.1 ∷ spread S es ps) s S.field.zero) ≡ coef_at S.field (vec S.field (e ∷ es)) (key b)
       met same taken zero w r =
           let at : key e.0 ≡ key b = ap key (same ∙ sym r) in
@@ -124,7 +124,7 @@ module _ {E : Type 0} (S : SpaceOver E) where
           ∙ sym (coef_later S.field e es (key b) (λ q. past s (omega arith) r (ap key (sym same) ∙ q)))
 
       missed : (r : Ordering) → S.order.compare e.0 p ≡ r → ¬ (r ≡ Equal)
-          → (Each (λ f. In (key f.0) (map key ps)) (e ∷ es) → (s : ℕ) (b : Place) → s < length ps → b ≡ get_or ps s b → scalar S.field (get_or (spread S (e ∷ es) ps) s S.field.zero) ≡ coef_at S.field (vec S.field (e ∷ es)) (key b))
+          → (Each (λ f. In (key f.0) (map key ps)) (e ∷ es) → (s : ℕ) (b : TermPlace) → s < length ps → b ≡ get_or ps s b → scalar S.field (get_or (spread S (e ∷ es) ps) s S.field.zero) ≡ coef_at S.field (vec S.field (e ∷ es)) (key b))
           → (s : ℕ) → s < length (p ∷ ps) → b ≡ get_or (p ∷ ps) s b → scalar S.field (get_or (S.field.zero ∷ spread S (e ∷ es) ps) s S.field.zero) ≡ coef_at S.field (vec S.field (e ∷ es)) (key b)
       missed r c n left s w read = at s w read
         where
@@ -145,8 +145,8 @@ module _ {E : Type 0} (S : SpaceOver E) where
           at (suc s) w r = left (e_later, later p ps es there.1 others) s b (omega arith) r
 
       go : (r : Ordering) → S.order.compare e.0 p ≡ r
-          → (Each (λ f. In (key f.0) (map key ps)) es → (s : ℕ) (b : Place) → s < length ps → b ≡ get_or ps s b → scalar S.field (get_or (spread S es ps) s S.field.zero) ≡ coef_at S.field (vec S.field es) (key b))
-          → (Each (λ f. In (key f.0) (map key ps)) (e ∷ es) → (s : ℕ) (b : Place) → s < length ps → b ≡ get_or ps s b → scalar S.field (get_or (spread S (e ∷ es) ps) s S.field.zero) ≡ coef_at S.field (vec S.field (e ∷ es)) (key b))
+          → (Each (λ f. In (key f.0) (map key ps)) es → (s : ℕ) (b : TermPlace) → s < length ps → b ≡ get_or ps s b → scalar S.field (get_or (spread S es ps) s S.field.zero) ≡ coef_at S.field (vec S.field es) (key b))
+          → (Each (λ f. In (key f.0) (map key ps)) (e ∷ es) → (s : ℕ) (b : TermPlace) → s < length ps → b ≡ get_or ps s b → scalar S.field (get_or (spread S (e ∷ es) ps) s S.field.zero) ≡ coef_at S.field (vec S.field (e ∷ es)) (key b))
           → (s : ℕ) → s < length (p ∷ ps) → b ≡ get_or (p ∷ ps) s b → scalar S.field (get_or (spread_by S r e.1 (spread S es ps) (spread S (e ∷ es) ps)) s S.field.zero) ≡ coef_at S.field (vec S.field (e ∷ es)) (key b)
       go Less c taken left s w r = missed Less c (λ q. cc) left s w r
       go Greater c taken left s w r = missed Greater c (λ q. cc) left s w r
@@ -155,27 +155,27 @@ module _ {E : Type 0} (S : SpaceOver E) where
   abbrev terms_at : List (Term E (List ℕ)) → ℕ → List (Entry E)
   terms_at terms j = entries (λ m. m) (drop j terms)
 
-  pub spread_taken : (terms : List (Term E (List ℕ))) (j : ℕ) (x : Term E (List ℕ)) (p : Place) → j < length terms → x ≡ get_or terms j x → S.order.compare (place (λ m. m) x.at) p ≡ Equal
-      → (ps : List Place) → spread S (entries (λ m. m) (drop j terms)) (p ∷ ps) ≡ x.coef ∷ spread S (entries (λ m. m) (drop (j + 1) terms)) ps
+  pub spread_taken : (terms : List (Term E (List ℕ))) (j : ℕ) (x : Term E (List ℕ)) (p : TermPlace) → j < length terms → x ≡ get_or terms j x → S.order.compare (place (λ m. m) x.at) p ≡ Equal
+      → (ps : List TermPlace) → spread S (entries (λ m. m) (drop j terms)) (p ∷ ps) ≡ x.coef ∷ spread S (entries (λ m. m) (drop (j + 1) terms)) ps
   spread_taken terms j x p inside read equal ps =
       let next : suc j ≡ j + 1 = omega arith in
       let cut : drop j terms ≡ x ∷ drop (suc j) terms = drop-cons terms j x inside ∙ ap (λ y. y ∷ drop (suc j) terms) (sym read) in
       ap (λ l. spread S (entries (λ m. m) l) (p ∷ ps)) cut ∙ ap (λ r. spread_by S r x.coef (spread S (terms_at terms (suc j)) ps) (spread S (entries (λ m. m) (x ∷ drop (suc j) terms)) ps)) equal
       ∙ ap (λ i. x.coef ∷ spread S (terms_at terms i) ps) next
 
-  pub spread_left : (terms : List (Term E (List ℕ))) (j : ℕ) (x : Term E (List ℕ)) (p : Place) → j < length terms → x ≡ get_or terms j x → ¬ (S.order.compare (place (λ m. m) x.at) p ≡ Equal)
-      → (ps : List Place) → spread S (entries (λ m. m) (drop j terms)) (p ∷ ps) ≡ S.field.zero ∷ spread S (entries (λ m. m) (drop j terms)) ps
+  pub spread_left : (terms : List (Term E (List ℕ))) (j : ℕ) (x : Term E (List ℕ)) (p : TermPlace) → j < length terms → x ≡ get_or terms j x → ¬ (S.order.compare (place (λ m. m) x.at) p ≡ Equal)
+      → (ps : List TermPlace) → spread S (entries (λ m. m) (drop j terms)) (p ∷ ps) ≡ S.field.zero ∷ spread S (entries (λ m. m) (drop j terms)) ps
   spread_left terms j x p inside read other ps =
       let cut : drop j terms ≡ x ∷ drop (suc j) terms = drop-cons terms j x inside ∙ ap (λ y. y ∷ drop (suc j) terms) (sym read) in
       ap (λ l. spread S (entries (λ m. m) l) (p ∷ ps)) cut ∙ spread_other (S.order.compare (place (λ m. m) x.at) p) x.coef _ (spread S (entries (λ m. m) (x ∷ drop (suc j) terms)) ps) other
       ∙ ap (λ l. S.field.zero ∷ spread S (entries (λ m. m) l) ps) (sym cut)
 
-  pub spread_past : (terms : List (Term E (List ℕ))) (j : ℕ) (p : Place) → length terms ≤ j → (ps : List Place) → spread S (entries (λ m. m) (drop j terms)) (p ∷ ps) ≡ S.field.zero ∷ spread S (entries (λ m. m) (drop j terms)) ps
+  pub spread_past : (terms : List (Term E (List ℕ))) (j : ℕ) (p : TermPlace) → length terms ≤ j → (ps : List TermPlace) → spread S (entries (λ m. m) (drop j terms)) (p ∷ ps) ≡ S.field.zero ∷ spread S (entries (λ m. m) (drop j terms)) ps
   spread_past terms j p past ps = ap (λ l. spread S (entries (λ m. m) l) (p ∷ ps)) (drop_all j terms past) ∙ ap (λ l. S.field.zero ∷ spread S (entries (λ m. m) l) ps) (sym (drop_all j terms past))
 
   -- one value more
   spread_step : (terms : List (Term E (List ℕ))) (cs : List (Column E)) (j i l : ℕ) (c : Column E) (row new : List E) (a : E) → l < length cs → c ≡ get_or cs l c → new ≡ row ++ a ∷ []
-      → ((ps : List Place) → spread S (entries (λ m. m) (drop j terms)) (place_of c ∷ ps) ≡ a ∷ spread S (entries (λ m. m) (drop i terms)) ps)
+      → ((ps : List TermPlace) → spread S (entries (λ m. m) (drop j terms)) (place_of c ∷ ps) ≡ a ∷ spread S (entries (λ m. m) (drop i terms)) ps)
       → row ++ spread S (entries (λ m. m) (drop j terms)) (places_of (drop l cs)) ≡ spread S (entries (λ m. m) terms) (places_of cs)
       → new ++ spread S (entries (λ m. m) (drop i terms)) (places_of (drop (l + 1) cs)) ≡ spread S (entries (λ m. m) terms) (places_of cs)
   spread_step terms cs j i l c row new a inside read is value was =
@@ -201,7 +201,7 @@ module _ {E : Type 0} (S : SpaceOver E) where
   walk_start terms cs row none = record { within = omega arith; rest = ap (λ r. r ++ spread S (entries (λ m. m) terms) (places_of cs)) none }
 
   pub walk_step : (terms : List (Term E (List ℕ))) (cs : List (Column E)) (j i l : ℕ) (c : Column E) (row new : List E) (a : E) → l < length cs → c ≡ get_or cs l c → new ≡ row ++ a ∷ [] → i ≤ length terms
-      → ((ps : List Place) → spread S (entries (λ m. m) (drop j terms)) (place_of c ∷ ps) ≡ a ∷ spread S (entries (λ m. m) (drop i terms)) ps) → Walk terms cs j l row → Walk terms cs i (l + 1) new
+      → ((ps : List TermPlace) → spread S (entries (λ m. m) (drop j terms)) (place_of c ∷ ps) ≡ a ∷ spread S (entries (λ m. m) (drop i terms)) ps) → Walk terms cs j l row → Walk terms cs i (l + 1) new
   walk_step terms cs j i l c row new a inside read is low value was = record { within = low; rest = spread_step terms cs j i l c row new a inside read is value was.rest }
 
   pub walk_end : (terms : List (Term E (List ℕ))) (cs : List (Column E)) (j l : ℕ) (row : List E) → length cs ≤ l → Walk terms cs j l row → row ≡ spread S (entries (λ m. m) terms) (places_of cs)

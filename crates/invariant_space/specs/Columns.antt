@@ -6,7 +6,7 @@
 --   IsColumnPlace S c          the monomial of c is one of the space
 --   IsColumn S gens c          and the images are its images under the matrices
 use Rattle.std.specs.Prelude.{◌≡◌, ◌<◌, ℕ, List, [], All, length, map, slice_index_or}
-use Rattle.alg_core.specs.Keys.{Place, Key, key}
+use Rattle.alg_core.specs.Keys.{TermPlace, Key, key}
 use Rattle.alg_core.specs.Vectors.{Vect}
 use Rattle.alg_core.specs.declared.term.Term.{Term}
 use Rattle.alg_core.specs.Spaces.{SpaceOver, IsPlace}
@@ -20,13 +20,13 @@ use Rattle.invariant_space.specs.declared.columns.Column.{Column}
 use Rattle.invariant_space.specs.InvariantSpaces.{IsOfDegree}
 
 -- the place of a column's monomial
-abbrev pub place_of : {E : Type 0} → Column E → Place
+abbrev pub place_of : {E : Type 0} → Column E → TermPlace
 place_of c = (c.at.pos, c.at.mono)
 
 abbrev pub key_of : {E : Type 0} → Column E → Key
 key_of c = key (place_of c)
 
-abbrev pub places_of : {E : Type 0} → List (Column E) → List Place
+abbrev pub places_of : {E : Type 0} → List (Column E) → List TermPlace
 places_of cs = map place_of cs
 
 abbrev pub keys_of : {E : Type 0} → List (Column E) → List Key

@@ -9,7 +9,7 @@ use Rattle.std.specs.Prelude.{◌≡◌, ◌<◌, ◌+◌, ◌*◌, ℕ, List, [
 use Rattle.std.specs.declared.cmp.Ordering.{Ordering}
 use Rattle.std.specs.declared.cmp.Ordering.TheVariants.{Less, Equal, Greater}
 use Rattle.alg_core.specs.Fields.{Has, scalars}
-use Rattle.alg_core.specs.Keys.{Place}
+use Rattle.alg_core.specs.Keys.{TermPlace}
 use Rattle.alg_core.specs.Vectors.{Entry, coef_at}
 use Rattle.alg_core.specs.Spaces.{SpaceOver}
 use Rattle.poly_module.specs.Polynomials.{single_vector}
@@ -27,7 +27,7 @@ module _ {E : Type 0} (S : SpaceOver E) where
   spread_by Equal a taken left = a ∷ taken
   spread_by Greater a taken left = S.field.zero ∷ left
 
-  abbrev pub spread : List (Entry E) → List Place → List E
+  abbrev pub spread : List (Entry E) → List TermPlace → List E
   spread es [] = []
   spread [] (p ∷ ps) = S.field.zero ∷ spread [] ps
   spread (e ∷ es) (p ∷ ps) = spread_by (S.order.compare e.0 p) e.1 (spread es ps) (spread (e ∷ es) ps)

@@ -1,5 +1,5 @@
 ghost use Rattle.std.specs.Prelude.{◌≡◌, ◌<◌, ◌+◌, ℕ, List, [], ◌∷◌, All, IsSome, IfSome, IfNone, IfOk, drop, length, map, slice_index_or};
-ghost use Rattle.alg_core.specs.Keys.{Place};
+ghost use Rattle.alg_core.specs.Keys.{TermPlace};
 ghost use Rattle.alg_core.specs.Fields.{scalars};
 ghost use Rattle.alg_core.specs.SpaceOrder.{key_order};
 ghost use Rattle.alg_core.specs.Spaces.{over, entries, Fits, IsPlace};
@@ -26,9 +26,9 @@ fn value_at<F: Field, O: TermOrder>(
     requires place { IsPlace (over F.field O.order space.now) (at.now.pos, at.now.mono) }
     requires fits { Fits (over F.field O.order space.now) (entries (λ m. m) terms.now) }
     ensures within { IsSome result → j < length terms.now }
-    ensures some { let S = over F.field O.order space.now in IfSome result (λ a. (ps : List Place) →
+    ensures some { let S = over F.field O.order space.now in IfSome result (λ a. (ps : List TermPlace) →
         spread S (entries (λ m. m) (drop j terms.now)) ((at.now.pos, at.now.mono) ∷ ps) ≡ a ∷ spread S (entries (λ m. m) (drop (j + 1) terms.now)) ps) }
-    ensures none { let S = over F.field O.order space.now in IfNone result ((ps : List Place) →
+    ensures none { let S = over F.field O.order space.now in IfNone result ((ps : List TermPlace) →
         spread S (entries (λ m. m) (drop j terms.now)) ((at.now.pos, at.now.mono) ∷ ps) ≡ S.field.zero ∷ spread S (entries (λ m. m) (drop j terms.now)) ps) }
 {
     if j >= terms.len() {

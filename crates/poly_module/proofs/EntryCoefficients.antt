@@ -6,7 +6,7 @@ use Rattle.alg_core.specs.RingLaws as rings
 use Rattle.alg_core.specs.FormalSums.{indicator}
 use Rattle.alg_core.specs.CanonicalLists.{indicator_no, indicator_yes}
 use Rattle.alg_core.specs.Fields.{Scalar, scalar, scalars, scalar_not_zero}
-use Rattle.alg_core.specs.Keys.{Place, Key, key, key_same, key_injective}
+use Rattle.alg_core.specs.Keys.{TermPlace, Key, key, key_same, key_injective}
 use Rattle.alg_core.specs.Vectors.{Entry, coef_at, vec}
 use Rattle.alg_core.specs.Spaces.{SpaceOver, IsPlace, IsAbove, IsTerm, Fits}
 use Rattle.alg_core.proofs.VectorLaws.{coef_at_plus, coef_at_scale, coef_at_zero, vec_cons, vec_nothing}
@@ -30,26 +30,26 @@ module _ {E : Type 0} (S : SpaceOver E) where
   by_first e l t = ap (λ v. coef_at S.field v t) (vec_cons S.field e l) ∙ coef_at_plus S.field _ _ t
 
   -- no entry is at the place
-  abbrev pub NotAt : Place → List (Entry E) → Type 0
+  abbrev pub NotAt : TermPlace → List (Entry E) → Type 0
   NotAt p [] = Unit {0}
   NotAt p (e ∷ es) = ¬ (e.0 ≡ p) × NotAt p es
 
-  other_key : (e : Entry E) (p : Place) → IsPlace S p → IsTerm S e → ¬ (e.0 ≡ p) → ¬ (key e.0 ≡ key p)
+  other_key : (e : Entry E) (p : TermPlace) → IsPlace S p → IsTerm S e → ¬ (e.0 ≡ p) → ¬ (key e.0 ≡ key p)
   other_key e p h t n = λ same. n (key_injective e.0 p (t.place.wide ∙ sym h.wide) same)
 
   -- at another place than those of the entries
-  pub no_entry : (es : List (Entry E)) (p : Place) → IsPlace S p → Fits S es → NotAt p es → coef_at S.field (vec S.field es) (key p) ≡ zero_scalar
+  pub no_entry : (es : List (Entry E)) (p : TermPlace) → IsPlace S p → Fits S es → NotAt p es → coef_at S.field (vec S.field es) (key p) ≡ zero_scalar
   no_entry [] p h f n = ap (λ v. coef_at S.field v (key p)) (vec_nothing S.field) ∙ coef_at_zero S.field (key p)
   no_entry (e ∷ es) p h f n = by_first e es (key p) ∙ ap₂ (scalars S.field).◌+◌ (at_other e (key p) (other_key e p h f.0 n.0)) (no_entry es p h f.2 n.1) ∙ (scalars S.field).add_zero zero_scalar
 
-  greater_is_other : (p q : Place) → S.order.compare p q ≡ Greater → ¬ (q ≡ p)
+  greater_is_other : (p q : TermPlace) → S.order.compare p q ≡ Greater → ¬ (q ≡ p)
   greater_is_other p q g e = let same : S.order.compare p q ≡ Equal = subst (λ r. S.order.compare p r ≡ Equal) (sym e) (tied_itself S.order.total p) in let clash : Greater ≡ Equal = sym g ∙ same in absurd cc
 
-  above_not_at : (p : Place) (es : List (Entry E)) → IsAbove S p es → NotAt p es
+  above_not_at : (p : TermPlace) (es : List (Entry E)) → IsAbove S p es → NotAt p es
   above_not_at p [] a = tt
   above_not_at p (e ∷ es) a = (greater_is_other p e.0 a.0, above_not_at p es a.1)
 
-  above_at : (p : Place) (es : List (Entry E)) (i : ℕ) (d : Entry E) → i < length es → IsAbove S p es → S.order.compare p (get_or es i d).0 ≡ Greater
+  above_at : (p : TermPlace) (es : List (Entry E)) (i : ℕ) (d : Entry E) → i < length es → IsAbove S p es → S.order.compare p (get_or es i d).0 ≡ Greater
   above_at p [] i d w a = absurd (omega arith)
   above_at p (e ∷ es) zero d w a = a.0
   above_at p (e ∷ es) (suc i) d w a = above_at p es i d (omega arith) a.1

@@ -6,7 +6,7 @@ use Rattle.std.specs.declared.cmp.Ordering.{Ordering}
 use Rattle.std.specs.declared.cmp.Ordering.TheVariants.{Equal}
 use Rattle.std.proofs.lemmas.Cmp.{tied_itself}
 use Rattle.alg_core.specs.Fields.{scalar, scalars}
-use Rattle.alg_core.specs.Keys.{Place, key}
+use Rattle.alg_core.specs.Keys.{TermPlace, key}
 use Rattle.alg_core.specs.Vectors.{Entry, coef_at, vec}
 use Rattle.alg_core.specs.declared.term.Term.{Term}
 use Rattle.alg_core.specs.Spaces.{SpaceOver, IsPlace, entry, entries, Fits}
@@ -55,30 +55,30 @@ module _ {E M : Type 0} (S : SpaceOver E) (exps : M → List ℕ) where
 
   -- one entry, by its place and its value
   pub entry_same : (x y : Term E M) → S.order.compare (entry exps x).0 (entry exps y).0 ≡ Equal → x.coef ≡ y.coef → entry exps x ≡ entry exps y
-  entry_same x y e c = ap₂ (λ (p : Place) (v : E). (p, v)) (S.order.tied _ _ e) c
+  entry_same x y e c = ap₂ (λ (p : TermPlace) (v : E). (p, v)) (S.order.tied _ _ e) c
 
   -- the places that were passed
-  not_at_append : (p : Place) (es fs : List (Entry E)) → NotAt S p es → NotAt S p fs → NotAt S p (es ++ fs)
+  not_at_append : (p : TermPlace) (es fs : List (Entry E)) → NotAt S p es → NotAt S p fs → NotAt S p (es ++ fs)
   not_at_append p [] fs h g = g
   not_at_append p (e ∷ es) fs h g = (h.0, not_at_append p es fs h.1 g)
 
-  pub not_at_more : (p : Place) (xs : Terms) (i : ℕ) (x : Term E M) → i < length xs → x ≡ get_or xs i x → ¬ ((entry exps x).0 ≡ p) → NotAt S p (entries exps (take i xs)) → NotAt S p (entries exps (take (i + 1) xs))
+  pub not_at_more : (p : TermPlace) (xs : Terms) (i : ℕ) (x : Term E M) → i < length xs → x ≡ get_or xs i x → ¬ ((entry exps x).0 ≡ p) → NotAt S p (entries exps (take i xs)) → NotAt S p (entries exps (take (i + 1) xs))
   not_at_more p xs i x w read other was = subst (NotAt S p) (sym (take_map (entry exps) xs i x w read)) (not_at_append p (entries exps (take i xs)) (entry exps x ∷ []) was (other, tt))
 
-  pub found : (p : Place) (xs a : Terms) (i : ℕ) (x : Term E M) → xs ≡ a → i < length xs → x ≡ get_or xs i x → S.order.compare (entry exps x).0 p ≡ Equal → IsVector S exps a → scalar S.field x.coef ≡ coef_at S.field (vector_of S exps a) (key p)
+  pub found : (p : TermPlace) (xs a : Terms) (i : ℕ) (x : Term E M) → xs ≡ a → i < length xs → x ≡ get_or xs i x → S.order.compare (entry exps x).0 p ≡ Equal → IsVector S exps a → scalar S.field x.coef ≡ coef_at S.field (vector_of S exps a) (key p)
   found p xs a i x same w read equal f =
       let fits : Fits S (entries exps xs) = subst (IsVector S exps) (sym same) f in
       let e : get_or (entries exps xs) i (entry exps x) ≡ entry exps x = entry_index xs i x (entry exps x) w read in
       let inside : i < length (entries exps xs) = let n = length_entries xs in omega arith in
       sym (subst (λ (t : Entry E). coef_at S.field (vec S.field (entries exps xs)) (key t.0) ≡ scalar S.field t.1) e (entry_value S (entries exps xs) i (entry exps x) inside fits))
-      ∙ ap₂ (λ l (q : Place). coef_at S.field (vec S.field (entries exps l)) (key q)) same (S.order.tied _ p equal)
+      ∙ ap₂ (λ l (q : TermPlace). coef_at S.field (vec S.field (entries exps l)) (key q)) same (S.order.tied _ p equal)
 
-  pub not_found : (p : Place) (xs a : Terms) (i : ℕ) → xs ≡ a → length xs ≤ i → IsPlace S p → NotAt S p (entries exps (take i xs)) → IsVector S exps a → coef_at S.field (vector_of S exps a) (key p) ≡ (scalars S.field).zero
+  pub not_found : (p : TermPlace) (xs a : Terms) (i : ℕ) → xs ≡ a → length xs ≤ i → IsPlace S p → NotAt S p (entries exps (take i xs)) → IsVector S exps a → coef_at S.field (vector_of S exps a) (key p) ≡ (scalars S.field).zero
   not_found p xs a i same done place none f = no_entry S (entries exps a) p place f (subst (λ l. NotAt S p (entries exps l)) (take_all i xs done ∙ same) none)
 
 module _ {E : Type 0} (S : SpaceOver E) where
   -- places that compare as other than equal are two
-  pub other_place : (p q : Place) (r : Ordering) → r ≡ S.order.compare p q → ¬ (r ≡ Equal) → ¬ (p ≡ q)
+  pub other_place : (p q : TermPlace) (r : Ordering) → r ≡ S.order.compare p q → ¬ (r ≡ Equal) → ¬ (p ≡ q)
   other_place p q r is n e = n (is ∙ ap (λ t. S.order.compare t q) e ∙ tied_itself S.order.total q)
 
   -- a list with no term has every degree

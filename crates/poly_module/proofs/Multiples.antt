@@ -3,7 +3,7 @@ use Rattle.std.proofs.Common.{◌≡◌, ◌≢◌, ℕ, List, [], ◌∷◌, ma
 use Rattle.alg_core.specs.Fields.{Has, product_not_zero}
 use Rattle.alg_core.specs.Monomials.{mono}
 use Rattle.alg_core.specs.ExponentLists.{product}
-use Rattle.alg_core.specs.Keys.{Place}
+use Rattle.alg_core.specs.Keys.{TermPlace}
 use Rattle.alg_core.specs.PlaceOrders.{times_place}
 use Rattle.alg_core.specs.Spaces.{SpaceOver, IsPlace, IsAbove, Fits}
 use Rattle.alg_core.specs.Vectors.{Entry, vec, plus, scale, shift}
@@ -25,7 +25,7 @@ module _ {E : Type 0} (S : SpaceOver E) (c : E) (m : List ℕ) where
         vec_cons S.field (multiple e) (multiples es) ∙ ap₂ (plus S.field) (sym (ap (scale S.field c) moved ∙ one)) (vec_multiples es h.2) ∙ sym (scale_plus S.field c _ _)
         ∙ ap (scale S.field c) (sym (shift_plus S.field (mono m) _ _) ∙ ap (shift S.field (mono m)) (sym (vec_cons S.field e es)))
 
-    fits_place : (p : Place) → IsPlace S p → IsPlace S (times_place m p)
+    fits_place : (p : TermPlace) → IsPlace S p → IsPlace S (times_place m p)
     fits_place p h =
         let same : length (product m p.1) ≡ length p.1 = length_product m p.1 (wide ∙ sym h.wide) in
         record { fits = ap (S.order.fits p.0) same ∙ h.fits; wide = same ∙ h.wide; low = h.low }
@@ -36,7 +36,7 @@ module _ {E : Type 0} (S : SpaceOver E) (c : E) (m : List ℕ) where
         length_product (x ∷ a) [] e = absurd (omega arith)
         length_product (x ∷ a) (y ∷ b) e = let ih = length_product a b (omega arith) in omega arith
 
-    above_multiples : (p : Place) (es : List (Entry E)) → length m ≡ length p.1 → Fits S es → IsAbove S p es → IsAbove S (times_place m p) (multiples es)
+    above_multiples : (p : TermPlace) (es : List (Entry E)) → length m ≡ length p.1 → Fits S es → IsAbove S p es → IsAbove S (times_place m p) (multiples es)
     above_multiples p [] w h a = tt
     above_multiples p (f ∷ fs) w h a = (S.order.kept m p f.0 w (wide ∙ sym h.0.place.wide) ∙ a.0, above_multiples p fs w h.2 a.1)
 
@@ -66,7 +66,7 @@ module _ {E : Type 0} (S : SpaceOver E) (c : E) where
       vec_cons S.field (scaled_entry e) (scaled_entries es) ∙ ap₂ (plus S.field) (sym (scale_entry S.field c e.0 e.1 hc h.0.has)) (vec_scaled hc es h.2)
       ∙ sym (scale_plus S.field c _ _) ∙ ap (scale S.field c) (sym (vec_cons S.field e es))
 
-  scaled_above : (p : Place) (es : List (Entry E)) → IsAbove S p es → IsAbove S p (scaled_entries es)
+  scaled_above : (p : TermPlace) (es : List (Entry E)) → IsAbove S p es → IsAbove S p (scaled_entries es)
   scaled_above p [] a = tt
   scaled_above p (e ∷ es) a = (a.0, scaled_above p es a.1)
 

@@ -3,7 +3,7 @@
 use Rattle.std.proofs.Common.{◌≡◌, ◌<◌, ◌≤◌, ◌+◌, ◌*◌, ℕ, zero, suc, List, [], ◌∷◌, map, length, get_or, mul_comm, arith}
 use Rattle.std.specs.Prelude.{All}
 use Rattle.alg_core.specs.DpOrder.{weighted_degree}
-use Rattle.alg_core.specs.Keys.{Place, key}
+use Rattle.alg_core.specs.Keys.{TermPlace, key}
 use Rattle.alg_core.specs.Vectors.{Entry}
 use Rattle.alg_core.specs.declared.term.Term.{Term}
 use Rattle.alg_core.specs.Spaces.{SpaceOver, IsPlace, entries, Fits}
@@ -32,7 +32,7 @@ greatest_total (x ∷ a) = let h = greatest_total a in omega arith
 
 module _ {E : Type 0} (S : SpaceOver E) (positive : AllPositive S.weights) where
   -- of a place of a degree
-  pub place_low : (d : ℕ) (p : Place) → IsPlace S p → degree S (key p) ≤ d → total p.1 ≤ d
+  pub place_low : (d : ℕ) (p : TermPlace) → IsPlace S p → degree S (key p) ≤ d → total p.1 ≤ d
   place_low d p h low = let sum = total_weighted S.weights p.1 positive h.wide in let at = degree_key S p h.wide h.low in omega arith
 
   terms_low : (d : ℕ) (es : List (Entry E)) → Fits S es → All (λ e. degree S (key e.0) ≤ d) es → All (λ e. total e.0.1 ≤ d) es

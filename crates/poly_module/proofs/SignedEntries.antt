@@ -2,7 +2,7 @@
 use Rattle.std.proofs.Common.{◌≡◌, ◌≢◌, List, [], ◌∷◌, sym, ap, ap₂, ◌∙◌}
 use Rattle.std.proofs.lemmas.List.{map-id}
 use Rattle.alg_core.specs.Fields.{FieldOn, Has}
-use Rattle.alg_core.specs.Keys.{Place}
+use Rattle.alg_core.specs.Keys.{TermPlace}
 use Rattle.alg_core.specs.Spaces.{SpaceOver, IsAbove, Fits}
 use Rattle.alg_core.specs.Vectors.{Entry, Vect, vec, plus, zero_vector}
 use Rattle.alg_core.proofs.VectorLaws.{plus_assoc, plus_swap, plus_zero, vec_nothing, vec_cons, vec_twice, vec_zero}
@@ -26,7 +26,7 @@ module _ {E : Type 0} (k : FieldOn E) where
   signed_plus es = map-id es
 
 module _ {E : Type 0} (S : SpaceOver E) where
-  signed_above : (s : Sign) (p : Place) (es : List (Entry E)) → IsAbove S p es → IsAbove S p (signed_entries S.field s es)
+  signed_above : (s : Sign) (p : TermPlace) (es : List (Entry E)) → IsAbove S p es → IsAbove S p (signed_entries S.field s es)
   signed_above s p [] a = tt
   signed_above s p (e ∷ es) a = (a.0, signed_above s p es a.1)
 

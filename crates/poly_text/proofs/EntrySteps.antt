@@ -9,7 +9,7 @@ use Rattle.std.proofs.lemmas.List.{length-replicate, length-map, get_or-map}
 use Rattle.alg_core.specs.declared.value_kind.ValueKind.TheVariants as kinds
 use Rattle.alg_core.specs.DpOrder.{weighted_degree}
 use Rattle.alg_core.specs.Fields.{FieldOn, Has}
-use Rattle.alg_core.specs.Keys.{Place}
+use Rattle.alg_core.specs.Keys.{TermPlace}
 use Rattle.alg_core.specs.Spaces.{SpaceOver, IsPlace, IsTerm as IsTermOf, Fits, entry, entries}
 use Rattle.alg_core.specs.Vectors.{Entry}
 use Rattle.alg_core.specs.declared.term.Term.{Term as CodeTerm}
@@ -63,14 +63,14 @@ factors_pass names fs cs h =
 pub printed_passes : (p : ℕ) (names : Names) (t : Term) → first_failed (term_conditions p names t) ≡ None → is_printed p t ≡ true
 printed_passes p names t h = (passes (is_printed p t) kinds.Coefficient [] (factors_pass names t.factors ((is_printed p t, kinds.Coefficient) ∷ []) h).4).0
 
-pub place_passes : (S : SpaceOver ℕ) (before : Option Place) (here : Place) → first_failed (place_conditions S before here) ≡ None → (nat_le (weighted_degree S.weights here.1) 4096 ≡ true) × (falls S before here ≡ true)
+pub place_passes : (S : SpaceOver ℕ) (before : Option TermPlace) (here : TermPlace) → first_failed (place_conditions S before here) ≡ None → (nat_le (weighted_degree S.weights here.1) 4096 ≡ true) × (falls S before here ≡ true)
 place_passes S before here h =
     let degree = passes (nat_le (weighted_degree S.weights here.1) 4096) kinds.Degree ((falls S before here, kinds.Order) ∷ []) h in
     (degree.0, (passes (falls S before here) kinds.Order [] degree.1).0)
 
 module _ (S : SpaceOver ℕ) (names : Names) where
   -- a fault of the place
-  pub place_fails : (before : Option Place) (t : Term) (e : Entry ℕ) (n : ℕ) (k : ValueKind) → first_failed (term_conditions S.field.characteristic names t) ≡ None → e ≡ entry_of S names t
+  pub place_fails : (before : Option TermPlace) (t : Term) (e : Entry ℕ) (n : ℕ) (k : ValueKind) → first_failed (term_conditions S.field.characteristic names t) ≡ None → e ≡ entry_of S names t
       → first_failed (place_conditions S before e.0) ≡ Some k → fault_or n (first_failed (conditions S names before t)) None ≡ Some (n, k)
   place_fails before t e n k passed is failed =
       ap (λ f. fault_or n f None) (failed-append (term_conditions S.field.characteristic names t) (place_conditions S before (entry_of S names t).0) passed
@@ -93,7 +93,7 @@ module _ (S : SpaceOver ℕ) (names : Names) where
       record { has = value.0; not_zero = value.1; place = entry_place t places constants }
 
 module _ (S : SpaceOver ℕ) where
-  pub last_push : (before : Option Place) (es : List (Entry ℕ)) (e : Entry ℕ) → last_from before (es ++ (e ∷ [])) ≡ Some e.0
+  pub last_push : (before : Option TermPlace) (es : List (Entry ℕ)) (e : Entry ℕ) → last_from before (es ++ (e ∷ [])) ≡ Some e.0
   last_push before [] e = refl
   last_push before (f ∷ es) e = last_push (Some f.0) es e
 
@@ -114,7 +114,7 @@ module _ (S : SpaceOver ℕ) where
   fits_push (x ∷ es) e fits term smaller = push_after x es e fits term smaller
 
   -- the place of the last
-  pub last_at : (before : Option Place) (es : List (Entry ℕ)) (i : ℕ) (d : Entry ℕ) → i + 1 ≡ length es → last_from before es ≡ Some (get_or es i d).0
+  pub last_at : (before : Option TermPlace) (es : List (Entry ℕ)) (i : ℕ) (d : Entry ℕ) → i + 1 ≡ length es → last_from before es ≡ Some (get_or es i d).0
   last_at before [] i d at = absurd (omega arith)
   last_at before (e ∷ []) zero d at = refl
   last_at before (e ∷ []) (suc i) d at = absurd (omega arith)

@@ -5,7 +5,7 @@ use Rattle.std.specs.Ordering.{is_gt}
 use Rattle.std.proofs.lemmas.Bool.{le-leb, leb-true, and_parts, cases_eq, ltb-true}
 use Rattle.std.proofs.lemmas.List.Elements.{All-nil, All-cons, All-head, All-tail}
 use Rattle.alg_core.specs.Fields.{FieldOn, Has}
-use Rattle.alg_core.specs.Keys.{Place}
+use Rattle.alg_core.specs.Keys.{TermPlace}
 use Rattle.alg_core.specs.Names.{is_name}
 use Rattle.alg_core.specs.Spaces.{SpaceOver, IsTerm as IsTermOf, IsAbove, Fits}
 use Rattle.alg_core.specs.Vectors.{Entry}
@@ -69,15 +69,15 @@ module _ (S : SpaceOver ℕ) (names : Names) where
       }
 
   -- the first of the entries is smaller than the place before
-  abbrev Follows : Option Place → List (Entry ℕ) → Type 0
+  abbrev Follows : Option TermPlace → List (Entry ℕ) → Type 0
   Follows before [] = Unit {0}
   Follows before (e ∷ es) = falls S before e.0 ≡ true
 
-  above_follows : (p : Place) (es : List (Entry ℕ)) → IsAbove S p es → Follows (Some p) es
+  above_follows : (p : TermPlace) (es : List (Entry ℕ)) → IsAbove S p es → Follows (Some p) es
   above_follows p [] h = tt
   above_follows p (e ∷ es) h = ap is_gt h.0
 
-  printed_from : (p : ℕ) (before : Option Place) (i : ℕ) (es : List (Entry ℕ)) → IsPrimeField p S.field → length S.weights ≡ place_count names → AreDistinct names → All (λ w. IsTrue (is_name w)) names.vars
+  printed_from : (p : ℕ) (before : Option TermPlace) (i : ℕ) (es : List (Entry ℕ)) → IsPrimeField p S.field → length S.weights ≡ place_count names → AreDistinct names → All (λ w. IsTrue (is_name w)) names.vars
       → Fits S es → All (λ e. e.0.0 ≡ 0) es → All (IsReadable S names) es → Follows before es
       → (map (entry_of S names) (map (term_of names S.field.characteristic) es) ≡ es) × (first_fault S names before i (map (term_of names S.field.characteristic) es) ≡ None) × All IsTerm (map (term_of names S.field.characteristic) es)
   printed_from p before i [] prime places_are distinct names_are fits zeros readable follows = (refl, refl, All-nil IsTerm)
@@ -142,7 +142,7 @@ module _ (S : SpaceOver ℕ) (names : Names) where
           subst IsIndexed (sym (ap (variable_at names) (sym at) ∙ stands.0)) (variable_indexed f.variable one)
       go (inr other) rest = rest (λ none. some (exponent_there names f fs i other ∙ none))
 
-  read_term : (before : Option Place) (t : Term) → length S.weights ≡ place_count names → IsTerm t → first_failed (conditions S names before t) ≡ None
+  read_term : (before : Option TermPlace) (t : Term) → length S.weights ≡ place_count names → IsTerm t → first_failed (conditions S names before t) ≡ None
       → (term_of names S.field.characteristic (entry_of S names t) ≡ t) × IsReadable S names (entry_of S names t)
   read_term before t places_are short passed =
       let q = S.field.characteristic in
@@ -163,7 +163,7 @@ module _ (S : SpaceOver ℕ) (names : Names) where
         },
       )
 
-  read_from : (before : Option Place) (i : ℕ) (ts : List Term) → length S.weights ≡ place_count names → All IsTerm ts → first_fault S names before i ts ≡ None
+  read_from : (before : Option TermPlace) (i : ℕ) (ts : List Term) → length S.weights ≡ place_count names → All IsTerm ts → first_fault S names before i ts ≡ None
       → (map (term_of names S.field.characteristic) (map (entry_of S names) ts) ≡ ts) × All (IsReadable S names) (map (entry_of S names) ts)
   read_from before i [] places_are short passed = (refl, All-nil _)
   read_from before i (t ∷ ts) places_are short passed =

@@ -4,7 +4,7 @@ use Rattle.std.specs.Prelude.{All}
 use Rattle.std.proofs.lemmas.List.{get_or-map, length-map, map_more, drop_more, drop_all, take_all, map-append, length-take-le}
 use Rattle.std.proofs.lemmas.List.Elements.{All-nil, All-cons}
 use Rattle.alg_core.specs.Fields.{Has}
-use Rattle.alg_core.specs.Keys.{Place}
+use Rattle.alg_core.specs.Keys.{TermPlace}
 use Rattle.alg_core.specs.Spaces.{SpaceOver, IsPlace, Fits, entry, entries}
 use Rattle.alg_core.specs.Vectors.{Entry}
 use Rattle.alg_core.specs.declared.term.Term.{Term as CodeTerm}
@@ -37,7 +37,7 @@ given_term P xs i x below is all =
 
 module _ (S : SpaceOver ℕ) (names : Names) where
   -- the faults from the next term on
-  pub fault_step : (before : Option Place) (n : ℕ) (xs : List TermText) (i : ℕ) (x : TermText) → i < length xs → x ≡ get_or xs i x
+  pub fault_step : (before : Option TermPlace) (n : ℕ) (xs : List TermText) (i : ℕ) (x : TermText) → i < length xs → x ≡ get_or xs i x
       → first_fault S names before n (terms_of (drop i xs)) ≡ fault_or n (first_failed (conditions S names before (term_of x))) (first_fault S names (Some (entry_of S names (term_of x)).0) (suc n) (terms_of (drop (i + 1) xs)))
   fault_step before n xs i x below is =
       ap (λ l. first_fault S names before n (terms_of l)) (drop_more xs i x below ∙ ap (λ y. y ∷ drop (i + 1) xs) (sym is))

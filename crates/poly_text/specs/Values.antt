@@ -33,7 +33,7 @@ use Rattle.std.specs.Str.{bytes_eq}
 use Rattle.std.specs.Option.{is_some}
 use Rattle.std.specs.Ordering.{is_gt}
 use Rattle.alg_core.specs.DpOrder.{weighted_degree}
-use Rattle.alg_core.specs.Keys.{Place}
+use Rattle.alg_core.specs.Keys.{TermPlace}
 use Rattle.alg_core.specs.Spaces.{SpaceOver}
 use Rattle.alg_core.specs.Vectors.{Entry}
 use Rattle.alg_core.specs.declared.value_kind.ValueKind.{ValueKind}
@@ -88,7 +88,7 @@ value_of p t = if t.is_negative then p - t.coefficient else t.coefficient
 abbrev pub entry_of : SpaceOver ℕ → Names → Term → Entry ℕ
 entry_of S names t = ((0, exponents_from names (place_count names) 0 t.factors), value_of S.field.characteristic t)
 
-abbrev pub falls : SpaceOver ℕ → Option Place → Place → Bool
+abbrev pub falls : SpaceOver ℕ → Option TermPlace → TermPlace → Bool
 falls S None here = true
 falls S (Some before) here = is_gt (S.order.compare before here)
 
@@ -114,10 +114,10 @@ factor_conditions names fs =
 abbrev pub term_conditions : ℕ → Names → Term → List (Bool × ValueKind)
 term_conditions p names t = factor_conditions names t.factors ++ ((is_printed p t, kinds.Coefficient) ∷ [])
 
-abbrev pub place_conditions : SpaceOver ℕ → Option Place → Place → List (Bool × ValueKind)
+abbrev pub place_conditions : SpaceOver ℕ → Option TermPlace → TermPlace → List (Bool × ValueKind)
 place_conditions S before here = (nat_le (weighted_degree S.weights here.1) 4096, kinds.Degree) ∷ (falls S before here, kinds.Order) ∷ []
 
-abbrev pub conditions : SpaceOver ℕ → Names → Option Place → Term → List (Bool × ValueKind)
+abbrev pub conditions : SpaceOver ℕ → Names → Option TermPlace → Term → List (Bool × ValueKind)
 conditions S names before t = term_conditions S.field.characteristic names t ++ place_conditions S before (entry_of S names t).0
 
 abbrev pub first_failed : List (Bool × ValueKind) → Option ValueKind
@@ -128,15 +128,15 @@ abbrev pub fault_or : ℕ → Option ValueKind → Option (ℕ × ValueKind) →
 fault_or i (Some kind) rest = Some (i, kind)
 fault_or i None rest = rest
 
-abbrev pub first_fault : SpaceOver ℕ → Names → Option Place → ℕ → List Term → Option (ℕ × ValueKind)
+abbrev pub first_fault : SpaceOver ℕ → Names → Option TermPlace → ℕ → List Term → Option (ℕ × ValueKind)
 first_fault S names before i [] = None
 first_fault S names before i (t ∷ ts) = fault_or i (first_failed (conditions S names before t)) (first_fault S names (Some (entry_of S names t).0) (suc i) ts)
 
-abbrev pub last_from : Option Place → List (Entry ℕ) → Option Place
+abbrev pub last_from : Option TermPlace → List (Entry ℕ) → Option TermPlace
 last_from before [] = before
 last_from before (e ∷ es) = last_from (Some e.0) es
 
-abbrev pub last_place : List (Entry ℕ) → Option Place
+abbrev pub last_place : List (Entry ℕ) → Option TermPlace
 last_place es = last_from None es
 
 abbrev pub IsFault : TextFault → Option (ℕ × ValueKind) → Type 0
