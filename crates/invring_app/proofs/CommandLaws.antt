@@ -10,10 +10,11 @@ use Rattle.alg_core.specs.declared.limits.Limits.{Limits}
 use Rattle.invring_app.specs.declared.arguments.Argument.{Argument}
 use Rattle.invring_app.specs.declared.arguments.Argument.TheVariants.{Number, MaxOrder, MaxDegree, MaxBasis, MaxTerms, MaxRank, Tries, MaxText}
 use Rattle.invring_app.specs.declared.given.Given.{Given}
-use Rattle.invring_app.specs.declared.words.Command.{Command}
-use Rattle.invring_app.specs.declared.words.Command.TheVariants.{Basis, Order}
+use Rattle.invring_app.specs.declared.commands.Command.{Command}
+use Rattle.invring_app.specs.declared.commands.Command.TheVariants.{Basis, Order}
 use Rattle.invring_app.specs.declared.words.Request.{Request}
-use Rattle.invring_app.specs.Commands.{Part, IsInRange, AreParts, place, values, IsChosen, command_name, numbers_of, IsRequest, AreInRange}
+use Rattle.invring_app.specs.Commands.{command_name, numbers_of}
+use Rattle.invring_app.specs.Words.{Part, IsInRange, AreParts, place, values, IsChosen, IsRequest, AreInRange}
 use Rattle.invring_app.specs.WordReading.{◌>>=◌, given_at, nothing_given, limits_of, arguments_of, command_of, request_of}
 use Rattle.invring_app.proofs.GivenLaws.{place-injective, Cell, Fits, adds-some, adds-cells}
 use Rattle.invring_app.proofs.WordLaws.{read_from, AreParts-read, Written, read-written}

@@ -1,11 +1,11 @@
 pub mod BasisLaws
 pub mod CommandLaws
 pub mod DigitLaws
+pub mod FaultLaws
+pub mod GeneratorLaws
 pub mod GivenLaws
 pub mod LineLaws
 pub mod NumeralLaws
 pub mod OrderLaws
-pub mod RefusalLaws
 pub mod RunLaws
-pub mod ScriptLaws
 pub mod WordLaws

@@ -9,7 +9,7 @@ use Rattle.inv_outside.proofs.Told.{Took-append}
 use Rattle.alg_core.specs.declared.input_fault.InputFault.{InputFault}
 use Rattle.alg_core.specs.declared.place.Place.{Place}
 use Rattle.alg_core.specs.declared.place.Place.TheVariants.{Byte, Line}
-use Rattle.invring_app.specs.ErrorLines.{line_of, input_pieces, error_line}
+use Rattle.invring_app.specs.ErrorLines.{line_of, input_pieces, status_line}
 use Rattle.invring_app.specs.declared.status.BoundFault.{BoundFault}
 use Rattle.invring_app.specs.declared.status.BoundFault.TheVariants.{GroupBound}
 use Rattle.invring_app.specs.declared.status.Status.TheVariants as ends
@@ -93,8 +93,8 @@ pub terms-line : (slice shown slice' shown' : List ℕ) (n degree count : ℕ) �
 terms-line slice shown slice' shown' n degree count a b c d e =
     ap₂ (λ (s t : List ℕ). line_of (codes "bound terms " ∷ s ∷ codes " " ∷ t ∷ [])) (a ∙ b ∙ ap decimal c) (d ∙ e)
 
-pub group-line : (fault : BoundFault) (n m : ℕ) → fault ≡ GroupBound m → n ≡ m → line_of (codes "bound group " ∷ decimal n ∷ []) ≡ error_line (ends.Bound fault)
-group-line fault n m same number = ap (λ (k : ℕ). line_of (codes "bound group " ∷ decimal k ∷ [])) number ∙ ap (λ (f : BoundFault). error_line (ends.Bound f)) (sym same)
+pub group-line : (fault : BoundFault) (n m : ℕ) → fault ≡ GroupBound m → n ≡ m → line_of (codes "bound group " ∷ decimal n ∷ []) ≡ status_line (ends.Bound fault)
+group-line fault n m same number = ap (λ (k : ℕ). line_of (codes "bound group " ∷ decimal k ∷ [])) number ∙ ap (λ (f : BoundFault). status_line (ends.Bound f)) (sym same)
 
 -- what was taken, whatever came of it
 
@@ -117,11 +117,11 @@ fault-err r a c fault told same front = subst (λ (f : InputFault). OnErr r ((k 
 
 -- the line of a place
 
-place-line : (place told : Place) (text : List ℕ) (n m : ℕ) → place ≡ told → n ≡ m → line_of (text ∷ decimal m ∷ []) ≡ error_line (ends.Syntax told) → line_of (text ∷ decimal n ∷ []) ≡ error_line (ends.Syntax place)
-place-line place told text n m same number is = ap (λ (k : ℕ). line_of (text ∷ decimal k ∷ [])) number ∙ is ∙ ap (λ (p : Place). error_line (ends.Syntax p)) (sym same)
+place-line : (place told : Place) (text : List ℕ) (n m : ℕ) → place ≡ told → n ≡ m → line_of (text ∷ decimal m ∷ []) ≡ status_line (ends.Syntax told) → line_of (text ∷ decimal n ∷ []) ≡ status_line (ends.Syntax place)
+place-line place told text n m same number is = ap (λ (k : ℕ). line_of (text ∷ decimal k ∷ [])) number ∙ is ∙ ap (λ (p : Place). status_line (ends.Syntax p)) (sym same)
 
-pub byte-line : (place : Place) (n m : ℕ) → place ≡ Byte m → n ≡ m → line_of (codes "syntax place " ∷ decimal n ∷ []) ≡ error_line (ends.Syntax place)
+pub byte-line : (place : Place) (n m : ℕ) → place ≡ Byte m → n ≡ m → line_of (codes "syntax place " ∷ decimal n ∷ []) ≡ status_line (ends.Syntax place)
 byte-line place n m same number = place-line place (Byte m) (codes "syntax place ") n m same number refl
 
-pub row-line : (place : Place) (n m : ℕ) → place ≡ Line m → n ≡ m → line_of (codes "syntax line " ∷ decimal n ∷ []) ≡ error_line (ends.Syntax place)
+pub row-line : (place : Place) (n m : ℕ) → place ≡ Line m → n ≡ m → line_of (codes "syntax line " ∷ decimal n ∷ []) ≡ status_line (ends.Syntax place)
 row-line place n m same number = place-line place (Line m) (codes "syntax line ") n m same number refl

@@ -1,10 +1,9 @@
 pub mod Numerals
-pub mod Commands
+pub mod Words
 pub mod WordReading
-pub mod Scripts
-pub mod Refusals
-pub mod Outputs
-pub mod Bases
-pub mod Orders
+pub mod Faults
+pub mod Inputs
+pub mod Commands
+pub mod Endings
 pub mod Outcomes
 pub mod ErrorLines

@@ -22,11 +22,11 @@ use Rattle.alg_core.specs.declared.limits.Limits.{Limits}
 use Rattle.invring_app.specs.declared.arguments.Argument.{Argument}
 use Rattle.invring_app.specs.declared.arguments.Argument.TheVariants.{Number, MaxOrder, MaxDegree, MaxBasis, MaxTerms, MaxRank, Tries, MaxText}
 use Rattle.invring_app.specs.declared.given.Given.{Given}
-use Rattle.invring_app.specs.declared.words.Command.{Command}
-use Rattle.invring_app.specs.declared.words.Command.TheVariants.{Basis, Order}
+use Rattle.invring_app.specs.declared.commands.Command.{Command}
+use Rattle.invring_app.specs.declared.commands.Command.TheVariants.{Basis, Order}
 use Rattle.invring_app.specs.declared.words.Reading.{Reading}
 use Rattle.invring_app.specs.declared.words.Request.{Request}
-use Rattle.invring_app.specs.Commands.{least, most}
+use Rattle.invring_app.specs.Words.{least, most}
 use Rattle.invring_app.specs.Numerals.{number_of}
 
 infixl 10 ◌>>=◌

@@ -15,7 +15,7 @@ pub(crate) enum Argument {
 
 impl Argument {
     ghost use Rattle.std.specs.Prelude.{◌≡◌};
-    ghost use Rattle.invring_app.specs.Commands.{least, most};
+    ghost use Rattle.invring_app.specs.Words.{least, most};
     ghost use Rattle.invring_app.specs.WordReading.{named};
 
     /// The option of this name.

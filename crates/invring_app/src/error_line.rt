@@ -1,6 +1,6 @@
 ghost use Rattle.std.specs.Prelude.{◌≡◌, ◌≤◌, ◌∷◌, [], ℕ, length, map, take, codes, decimal, OnOk, OnErr, IsErr};
 ghost use Rattle.inv_outside.specs.Outside.{Rose, Took};
-ghost use Rattle.invring_app.specs.ErrorLines.{line_of, error_line};
+ghost use Rattle.invring_app.specs.ErrorLines.{line_of, status_line};
 ghost use Rattle.invring_app.specs.declared.status.Status.TheVariants as ends;
 ghost use Rattle.invring_app.specs.declared.status.BoundFault.TheVariants.{TermBound};
 
@@ -45,8 +45,8 @@ fn write_name<E: Sink>(err: &mut E, text: &[u8], name: &Name) -> Result<(), Fail
 
 /// Writes the line of a place.
 fn write_place<E: Sink>(err: &mut E, place: Place) -> Result<(), Failed>
-    ensures ok { let line = error_line (ends.Syntax place) in OnOk result (Took (E.taken err.old) line (E.taken err.new)) }
-    ensures err { let line = error_line (ends.Syntax place) in OnErr result ((k : ℕ) × (k ≤ length line) × Took (E.taken err.old) (take k line) (E.taken err.new)) }
+    ensures ok { let line = status_line (ends.Syntax place) in OnOk result (Took (E.taken err.old) line (E.taken err.new)) }
+    ensures err { let line = status_line (ends.Syntax place) in OnErr result ((k : ℕ) × (k ≤ length line) × Took (E.taken err.old) (take k line) (E.taken err.new)) }
     ensures cause { IsErr result → Rose (E.faults err.old) (E.faults err.new) }
     ensures later { E.faults err.old ≤ E.faults err.new }
 {
@@ -58,8 +58,8 @@ fn write_place<E: Sink>(err: &mut E, place: Place) -> Result<(), Failed>
 
 /// Writes the line of a faulty input.
 fn write_input<E: Sink>(err: &mut E, fault: &InputFault) -> Result<(), Failed>
-    ensures ok { let line = error_line (ends.Input fault.now) in OnOk result (Took (E.taken err.old) line (E.taken err.new)) }
-    ensures err { let line = error_line (ends.Input fault.now) in OnErr result ((k : ℕ) × (k ≤ length line) × Took (E.taken err.old) (take k line) (E.taken err.new)) }
+    ensures ok { let line = status_line (ends.Input fault.now) in OnOk result (Took (E.taken err.old) line (E.taken err.new)) }
+    ensures err { let line = status_line (ends.Input fault.now) in OnErr result ((k : ℕ) × (k ≤ length line) × Took (E.taken err.old) (take k line) (E.taken err.new)) }
     ensures cause { IsErr result → Rose (E.faults err.old) (E.faults err.new) }
     ensures later { E.faults err.old ≤ E.faults err.new }
 {
@@ -78,8 +78,8 @@ fn write_input<E: Sink>(err: &mut E, fault: &InputFault) -> Result<(), Failed>
 
 /// Writes the line of a degree with too many monomials.
 fn write_terms<E: Sink>(err: &mut E, degree: u32, count: u128) -> Result<(), Failed>
-    ensures ok { let line = error_line (ends.Bound (TermBound degree count)) in OnOk result (Took (E.taken err.old) line (E.taken err.new)) }
-    ensures err { let line = error_line (ends.Bound (TermBound degree count)) in OnErr result ((k : ℕ) × (k ≤ length line) × Took (E.taken err.old) (take k line) (E.taken err.new)) }
+    ensures ok { let line = status_line (ends.Bound (TermBound degree count)) in OnOk result (Took (E.taken err.old) line (E.taken err.new)) }
+    ensures err { let line = status_line (ends.Bound (TermBound degree count)) in OnErr result ((k : ℕ) × (k ≤ length line) × Took (E.taken err.old) (take k line) (E.taken err.new)) }
     ensures cause { IsErr result → Rose (E.faults err.old) (E.faults err.new) }
     ensures later { E.faults err.old ≤ E.faults err.new }
 {
@@ -91,8 +91,8 @@ fn write_terms<E: Sink>(err: &mut E, degree: u32, count: u128) -> Result<(), Fai
 
 /// Writes the line of a bound.
 fn write_bound<E: Sink>(err: &mut E, fault: &BoundFault) -> Result<(), Failed>
-    ensures ok { let line = error_line (ends.Bound fault.now) in OnOk result (Took (E.taken err.old) line (E.taken err.new)) }
-    ensures err { let line = error_line (ends.Bound fault.now) in OnErr result ((k : ℕ) × (k ≤ length line) × Took (E.taken err.old) (take k line) (E.taken err.new)) }
+    ensures ok { let line = status_line (ends.Bound fault.now) in OnOk result (Took (E.taken err.old) line (E.taken err.new)) }
+    ensures err { let line = status_line (ends.Bound fault.now) in OnErr result ((k : ℕ) × (k ≤ length line) × Took (E.taken err.old) (take k line) (E.taken err.new)) }
     ensures cause { IsErr result → Rose (E.faults err.old) (E.faults err.new) }
     ensures later { E.faults err.old ≤ E.faults err.new }
 {
@@ -106,8 +106,8 @@ fn write_bound<E: Sink>(err: &mut E, fault: &BoundFault) -> Result<(), Failed>
 
 /// Writes the line of a status. It takes no memory.
 pub fn write_error<E: Sink>(err: &mut E, status: &Status) -> Result<(), Failed>
-    ensures ok { OnOk result (Took (E.taken err.old) (error_line status.now) (E.taken err.new)) }
-    ensures err { OnErr result ((k : ℕ) × (k ≤ length (error_line status.now)) × Took (E.taken err.old) (take k (error_line status.now)) (E.taken err.new)) }
+    ensures ok { OnOk result (Took (E.taken err.old) (status_line status.now) (E.taken err.new)) }
+    ensures err { OnErr result ((k : ℕ) × (k ≤ length (status_line status.now)) × Took (E.taken err.old) (take k (status_line status.now)) (E.taken err.new)) }
     ensures cause { IsErr result → Rose (E.faults err.old) (E.faults err.new) }
     ensures later { E.faults err.old ≤ E.faults err.new }
     ensures quiet { status.now ≡ ends.Done → err.new ≡ err.old }

@@ -3,21 +3,23 @@
 
 mod answer;
 mod arguments;
-mod basis;
+mod commands;
 mod digits;
 mod error_line;
+mod fault;
 mod field;
 mod given;
 mod number;
-mod order;
+mod reading;
 mod status;
 mod top_call;
 mod words;
 
+pub use commands::Command;
 pub use error_line::write_error;
 pub use status::{BoundFault, Status};
 pub use top_call::run;
-pub use words::{Command, Request, words_ask_once};
+pub use words::{Request, words_ask_once};
 
 #[cfg(test)]
 mod tests;

@@ -1,21 +1,13 @@
 ghost use Rattle.std.specs.Prelude.{◌≡◌, ℕ, List, IfSome, IfNone, map, string_bytes};
-ghost use Rattle.invring_app.specs.Commands.{IsRequest, AreInRange};
+ghost use Rattle.invring_app.specs.Words.{IsRequest, AreInRange};
 ghost use Rattle.invring_app.specs.WordReading.{give, step_of, arguments_of, command_of, request_of};
 ghost use Rattle.invring_app.specs.declared.words.Request.{Request as Asked};
 
 use crate::arguments::Argument;
+use crate::commands::Command;
 use crate::given::Given;
 use crate::number::number;
 use alg_core::Limits;
-
-/// What is to be done.
-#[derive(Clone, Copy, Debug, PartialEq, Eq)]
-pub enum Command {
-    /// The echelon basis of the invariants of one degree.
-    Basis { degree: u32 },
-    /// The order of the group.
-    Order,
-}
 
 /// What the words ask for.
 #[derive(Clone, Copy, Debug, PartialEq, Eq)]

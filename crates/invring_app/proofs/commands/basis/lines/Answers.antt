@@ -6,7 +6,7 @@ use Rattle.alg_core.specs.declared.dp.Dp.{Dp}
 use Rattle.prime_field.specs.PrimeFields.{gfp}
 use Rattle.prime_field.specs.declared.gfp.PrimeField.{PrimeField}
 use Rattle.invring_app.proofs.BasisLaws.{lines_next, lines_all}
-use Rattle.invring_app.proofs.basis.lines.Goals as goal
+use Rattle.invring_app.proofs.commands.basis.lines.Goals as goal
 
 pub print_poly-requires-clause-polynomial : goal.print_poly-requires-clause-polynomial
 print_poly-requires-clause-polynomial c = subst (λ p. All (λ (e : Entry ℕ). e.0.0 ≡ 0) (entries (λ (m : List ℕ). m) p)) (sym c.index-basis-i.is) (c.requires.polynomials c.loop-i.i c.index-basis-i.result c.loop-i-test.true)

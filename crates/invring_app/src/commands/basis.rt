@@ -1,17 +1,17 @@
 //! The echelon basis of the invariants of one degree, as lines of text.
 
-ghost use Rattle.std.specs.Prelude.{◌≡◌, ◌<◌, ◌≤◌, ◌∷◌, ℕ, [], Err, IfOk, length, map, replicate, All};
+ghost use Rattle.std.specs.Prelude.{◌≡◌, ◌<◌, ◌≤◌, ◌∷◌, ℕ, [], IfErr, IfOk, length, map, replicate, All};
 ghost use Rattle.alg_core.specs.Spaces.{over, entries, Fits};
-ghost use Rattle.finvar_text.specs.Scripts.{IsScriptOf};
-ghost use Rattle.finvar_text.specs.Syntax.{Script as Tree};
+ghost use Rattle.finvar_text.specs.Problems.{problem_in, IsSound};
 ghost use Rattle.poly_text.specs.Texts.{place_count};
-ghost use Rattle.invring_app.specs.Bases.{lines, IsBasisText, IsSound};
-ghost use Rattle.invring_app.specs.Outcomes.{count_of};
-ghost use Rattle.invring_app.specs.Outputs.{IsLines};
+ghost use Rattle.invring_app.specs.Commands.Bases.{lines, count_of, IsBasisText, IsBoundTold};
+ghost use Rattle.invring_app.specs.Endings.{Answers, IsAnswer, IsFault};
 
+use crate::commands::Command;
+use crate::fault::Fault;
 use crate::field::field_of;
-use alg_core::{Dp, Field, Grading, Memory, Name, Space, TermOrder};
-use finvar_text::Script;
+use alg_core::{Dp, Field, Grading, Limits, Memory, Name, Space, TermOrder};
+use finvar_text::{Script, read_script};
 use invariant_space::{SpaceFault, basis};
 use poly_module::Poly;
 use poly_text::{Names, print_poly};
@@ -68,7 +68,7 @@ fn lines(
 
 /// The lines of the echelon basis of the invariants of this degree of the script's generators: its
 /// polynomials by falling leads. TermBound says that the degree has more than `max_terms` monomials.
-pub(crate) fn basis_text(
+fn basis_lines(
     alloc: Global,
     script: Script,
     degree: u32,
@@ -76,11 +76,9 @@ pub(crate) fn basis_text(
 ) -> Result<Vec<u8>, SpaceFault>
     requires sound { IsSound script }
     requires degree { degree ≤ 1000 }
-    ensures lines { IfOk result (λ t. IsLines t.items) }
-    ensures basis { (tree : Tree) → IsScriptOf tree script → IfOk result (λ t. IsBasisText tree degree t.items) }
-    ensures bound { (tree : Tree) (d count : ℕ) → IsScriptOf tree script → result ≡ Err (SpaceFault.TermBound d count)
-        → (d ≡ degree) × (count ≡ count_of degree tree) × (max_terms < count) }
-    ensures within { (tree : Tree) → IsScriptOf tree script → IfOk result (λ _. count_of degree tree ≤ max_terms) }
+    ensures within { IfOk result (λ _. count_of degree (problem_in script) ≤ max_terms) }
+    ensures basis { IfOk result (λ t. IsBasisText (problem_in script) degree t.items) }
+    ensures bound { IfErr result (IsBoundTold degree max_terms (problem_in script)) }
 {
     let field = field_of(script.characteristic);
     let space = polynomials(alloc, field, &script.names)?;
@@ -91,5 +89,21 @@ pub(crate) fn basis_text(
         irreducibles: None,
     };
     let text = lines(alloc, &space, &names, &basis)?;
+    Ok(text)
+}
+
+/// What `basis` answers to the bytes of a script.
+pub(crate) fn basis_text(
+    alloc: Global,
+    bytes: &[u8],
+    degree: u32,
+    limits: &Limits,
+) -> Result<Vec<u8>, Fault>
+    requires degree { degree ≤ 1000 }
+    ensures text { IfOk result (λ text. IsAnswer (Command.Basis degree) limits.now bytes.now (Answers text.items)) }
+    ensures fault { IfErr result (IsFault (Command.Basis degree) limits.now bytes.now) }
+{
+    let script = read_script(alloc, bytes)?;
+    let text = basis_lines(alloc, script, degree, limits.max_terms)?;
     Ok(text)
 }
