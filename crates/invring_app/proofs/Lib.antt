@@ -1,6 +1,7 @@
 pub mod BasisLaws
 pub mod CommandLaws
 pub mod DigitLaws
+pub mod EndingLaws
 pub mod FaultLaws
 pub mod GeneratorLaws
 pub mod GivenLaws

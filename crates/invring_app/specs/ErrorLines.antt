@@ -2,6 +2,7 @@
 --
 --   line_of pieces       the pieces, one after another, and a newline
 --   input_pieces fault   what the line of a faulty input has before its newline, in pieces
+--   bound_pieces fault   the same of a bound
 --   status_line status   the line of a status; nothing where the run is done
 --   IsCommandOf ws c     the words ask for the command c; for none where they are no request
 --   error_line c status  the line of a run of the command c, or of one whose words are no command: that of its status
@@ -12,6 +13,7 @@ use Rattle.alg_core.specs.declared.place.Place.TheVariants.{Byte, Line}
 use Rattle.invring_app.specs.declared.commands.Command.{Command}
 use Rattle.invring_app.specs.declared.words.Request.{Request}
 use Rattle.invring_app.specs.Words.{IsRequest}
+use Rattle.invring_app.specs.declared.status.BoundFault.{BoundFault}
 use Rattle.invring_app.specs.declared.status.BoundFault.TheVariants.{TermBound, GroupBound}
 use Rattle.invring_app.specs.declared.status.Status.{Status}
 use Rattle.invring_app.specs.declared.status.Status.TheVariants.{Done, Usage, Syntax, Input, Bound, ReadFault, WriteFault, Memory}
@@ -31,14 +33,17 @@ input_pieces (faults.Size name) = codes "input size " ∷ name ∷ []
 input_pieces faults.NoMatrix = codes "input none" ∷ []
 input_pieces (faults.Singular name) = codes "input singular " ∷ name ∷ []
 
+abbrev pub bound_pieces : BoundFault → List (List ℕ)
+bound_pieces (TermBound degree count) = codes "bound terms " ∷ decimal degree ∷ codes " " ∷ decimal count ∷ []
+bound_pieces (GroupBound counted) = codes "bound group " ∷ decimal counted ∷ []
+
 abbrev pub status_line : Status → List ℕ
 status_line Done = []
 status_line Usage = line_of (codes "usage" ∷ [])
 status_line (Syntax (Byte n)) = line_of (codes "syntax place " ∷ decimal n ∷ [])
 status_line (Syntax (Line n)) = line_of (codes "syntax line " ∷ decimal n ∷ [])
 status_line (Input fault) = line_of (input_pieces fault)
-status_line (Bound (TermBound degree count)) = line_of (codes "bound terms " ∷ decimal degree ∷ codes " " ∷ decimal count ∷ [])
-status_line (Bound (GroupBound counted)) = line_of (codes "bound group " ∷ decimal counted ∷ [])
+status_line (Bound fault) = line_of (bound_pieces fault)
 status_line ReadFault = line_of (codes "read" ∷ [])
 status_line WriteFault = line_of (codes "write" ∷ [])
 status_line Memory = line_of (codes "memory" ∷ [])

@@ -4,6 +4,6 @@ pub mod WordReading
 pub mod Faults
 pub mod Inputs
 pub mod Commands
+pub mod ErrorLines
 pub mod Endings
 pub mod Outcomes
-pub mod ErrorLines

@@ -9,6 +9,7 @@ mod error_line;
 mod fault;
 mod field;
 mod given;
+mod laws;
 mod number;
 mod reading;
 mod status;
@@ -17,9 +18,10 @@ mod words;
 
 pub use commands::Command;
 pub use error_line::write_error;
+pub use laws::{bytes_are_read_once, requests_end_once, words_ask_once};
 pub use status::{BoundFault, Status};
 pub use top_call::run;
-pub use words::{Request, words_ask_once};
+pub use words::Request;
 
 #[cfg(test)]
 mod tests;

@@ -1,4 +1,4 @@
-ghost use Rattle.std.specs.Prelude.{◌≡◌, ℕ, List, IfSome, IfNone, map, string_bytes};
+ghost use Rattle.std.specs.Prelude.{◌≡◌, IfSome, IfNone, map, string_bytes};
 ghost use Rattle.invring_app.specs.Words.{IsRequest, AreInRange};
 ghost use Rattle.invring_app.specs.WordReading.{give, step_of, arguments_of, command_of, request_of};
 ghost use Rattle.invring_app.specs.declared.words.Request.{Request as Asked};
@@ -117,8 +117,3 @@ pub(crate) fn read_words(words: &[String]) -> Option<Request>
 {
     request_in(words)
 }
-
-/// A law: words are at most one command.
-pub fn words_ask_once()
-    ensures one { (words : List (List ℕ)) (r : Asked) (s : Asked) → IsRequest words r → IsRequest words s → r ≡ s }
-{}
