@@ -24,3 +24,4 @@ pub mod SpaceOrder
 pub mod Lists
 pub mod SpaceGrading
 pub mod CommonMultiples
+pub mod LimitRanges

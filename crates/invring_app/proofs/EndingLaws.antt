@@ -1,4 +1,4 @@
--- A command ends in one way at what was read.
+-- A problem has one text of its basis of a degree, and one order of its group.
 use Rattle.std.proofs.Common.{◌≡◌, ℕ, ◌<◌, ◌≤◌, List, [], ◌∷◌, ◌++◌, length, map, All, None, refl, sym, ap, ap₂, subst, ◌∙◌, arith, if◌then◌else◌, nat_lt, get_or, ◌+◌, ◌-◌}
 use Rattle.std.specs.Prelude.{Option, decimal, replicate, slice_index_or}
 use Rattle.std.proofs.lemmas.List.Elements.{All-nil, All-cons, All-head, All-tail}
@@ -10,7 +10,6 @@ use Rattle.alg_core.specs.KeyOrders.{OrderOn}
 use Rattle.alg_core.specs.PlaceOrders.{PlaceOrder}
 use Rattle.alg_core.specs.Spaces.{SpaceOver, Fits}
 use Rattle.alg_core.specs.Vectors.{Entry, Vect, vec}
-use Rattle.alg_core.specs.declared.limits.Limits.{Limits}
 use Rattle.prime_field.specs.PrimeFields.{gfp_same, IsPrimeField}
 use Rattle.poly_module.specs.Echelons.{IsEchelon}
 use Rattle.lin_algebra.specs.Matrices.{cut}
@@ -25,14 +24,10 @@ use Rattle.poly_text.specs.declared.names.Names.{Names}
 use Rattle.invariant_space.specs.InvariantSpaces.{IsInvariantForm, IsEchelonBasis}
 use Rattle.invariant_space.proofs.EchelonBasis.{echelon_basis_unique}
 use Rattle.finvar_text.specs.Problems.{Problem, variable_count}
-use Rattle.invring_app.specs.declared.commands.Command.{Command}
-use Rattle.invring_app.specs.declared.commands.Command.TheVariants.{Basis, Order}
 use Rattle.invring_app.specs.declared.status.BoundFault.{BoundFault}
 use Rattle.invring_app.specs.Commands.Bases.{IsSpaceOf, AreMatricesOf, AreNamesOf, lines, IsBasisText}
 use Rattle.invring_app.specs.Commands.Orders.{IsOrderOf, IsOverOrderOf}
-use Rattle.invring_app.specs.Endings.{Ending, StopsAt, Answers, AreAlike, EndsAs}
 use Rattle.invring_app.specs.ErrorLines.{bound_pieces}
-use Rattle.invring_app.specs.Inputs.{Input, NoInput, OfScript}
 
 field-one : (p : ℕ) (k l : FieldOn ℕ) → IsPrimeField p k → IsPrimeField p l → k ≡ l
 field-one p k l h g = h.1 ∙ gfp_same p p refl h.0 g.0 ∙ sym g.1
@@ -133,33 +128,21 @@ text-at q d text other S h g =
     let vectors = echelon_basis_unique S h.matrices d _ _ h.echelon (same-basis S d g.matrices h.matrices _ shapes g.echelon) in
     h.is_text ∙ ap (lines S h.names) (same-members S h.basis g.basis h.fit g.fit vectors) ∙ same-names S h.names g.names g.basis (variables-one q h.names g.names h.are_names g.are_names) ∙ sym g.is_text
 
-basis-text-one : (q : Problem) (d : ℕ) (text other : List ℕ) → IsBasisText q d text → IsBasisText q d other → text ≡ other
+pub basis-text-one : (q : Problem) (d : ℕ) (text other : List ℕ) → IsBasisText q d text → IsBasisText q d other → text ≡ other
 basis-text-one q d text other h g =
     text-at q d text other g.space (subst (AtSpace q d text) (space-one q h.space g.space h.is_space g.is_space) (at-space q d text h)) (at-space q d other g)
 
 -- a group has one order
 
-order-one : (q : Problem) (M N : ℕ) → IsOrderOf q M → IsOrderOf q N → M ≡ N
+pub order-one : (q : Problem) (M N : ℕ) → IsOrderOf q M → IsOrderOf q N → M ≡ N
 order-one q M N h g =
     let same = field-one q.characteristic h.0 g.0 h.1 g.1 in
     order_unique g.0 (variable_count q) q.generators M N (subst (λ (k : FieldOn ℕ). IsOrder k (variable_count q) q.generators M) same h.2) g.2
 
-order-over : (q : Problem) (N m : ℕ) → IsOrderOf q N → IsOverOrderOf q m → m < N
+pub order-over : (q : Problem) (N m : ℕ) → IsOrderOf q N → IsOverOrderOf q m → m < N
 order-over q N m h g =
     let same = field-one q.characteristic h.0 g.0 h.1 g.1 in
     over_order g.0 (variable_count q) q.generators N m (subst (λ (k : FieldOn ℕ). IsOrder k (variable_count q) q.generators N) same h.2) g.2
 
-alike : (f g : BoundFault) → f ≡ g → bound_pieces f ≡ bound_pieces g
+pub alike : (f g : BoundFault) → f ≡ g → bound_pieces f ≡ bound_pieces g
 alike f g e = ap bound_pieces e
-
-pub ending-one : (c : Command) (l : Limits) (i : Input) (e f : Ending) → EndsAs c l i e → EndsAs c l i f → AreAlike e f
-ending-one (Basis d) l NoInput e f h g = absurd h
-ending-one (Basis d) l (OfScript q) (StopsAt x) (StopsAt y) h g = alike x y (h.0 ∙ sym g.0)
-ending-one (Basis d) l (OfScript q) (StopsAt x) (Answers text) h g = let over = h.1 in let few = g.0 in omega arith
-ending-one (Basis d) l (OfScript q) (Answers text) (StopsAt y) h g = let over = g.1 in let few = h.0 in omega arith
-ending-one (Basis d) l (OfScript q) (Answers text) (Answers other) h g = basis-text-one q d text other h.1 g.1
-ending-one Order l NoInput e f h g = absurd h
-ending-one Order l (OfScript q) (StopsAt x) (StopsAt y) h g = alike x y (h.0 ∙ sym g.0)
-ending-one Order l (OfScript q) (StopsAt x) (Answers text) h g = let over = order-over q g.0 l.max_order g.1 h.1 in let few = g.2 in omega arith
-ending-one Order l (OfScript q) (Answers text) (StopsAt y) h g = let over = order-over q h.0 l.max_order h.1 g.1 in let few = h.2 in omega arith
-ending-one Order l (OfScript q) (Answers text) (Answers other) h g = h.3 ∙ ap (λ (n : ℕ). decimal n ++ 10 ∷ []) (order-one q h.0 g.0 h.1 g.1) ∙ sym g.3

@@ -13,7 +13,7 @@ use Rattle.invring_app.specs.declared.status.BoundFault.{BoundFault}
 use Rattle.invring_app.specs.declared.status.BoundFault.TheVariants.{TermBound, GroupBound}
 use Rattle.invring_app.specs.Commands.Bases.{count_of, IsBoundTold}
 use Rattle.invring_app.specs.Commands.Orders.{IsGroupTold}
-use Rattle.invring_app.specs.Endings.{IsFault}
+use Rattle.invring_app.specs.Answers.{IsFault}
 use Rattle.invring_app.specs.Faults.{fault_of_space, fault_of_group}
 use Rattle.invring_app.specs.Inputs.{OfScript}
 

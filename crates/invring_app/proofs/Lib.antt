@@ -1,4 +1,5 @@
 pub mod BasisLaws
+pub mod CommandCases
 pub mod CommandLaws
 pub mod DigitLaws
 pub mod EndingLaws

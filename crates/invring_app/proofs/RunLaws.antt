@@ -18,7 +18,8 @@ use Rattle.invring_app.specs.declared.words.Request.{Request}
 use Rattle.invring_app.specs.Commands.{reads}
 use Rattle.invring_app.specs.Words.{IsRequest}
 use Rattle.invring_app.proofs.CommandLaws.{IsRequest-unique}
-use Rattle.invring_app.specs.Endings.{Ending, StopsAt, Answers, Ends, IsAnswer, IsFault}
+use Rattle.invring_app.specs.Answers.{Ends, IsAnswer, IsFault}
+use Rattle.invring_app.specs.Endings.{Ending, StopsAt, Answers}
 use Rattle.invring_app.specs.Inputs.{Input, NoInput, OfScript, Refusal, NoText, Faulty, IsReading, most_bytes, ReadsAs, IsRefused, Takes, IsLeft}
 use Rattle.invring_app.specs.Outcomes.{refused_with, status_of, output_of, status_after, status_of_read, status_of_fault, IsEnd, Writes, Reading, EndsAt, Writing, Completes}
 

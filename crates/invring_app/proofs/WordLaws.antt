@@ -16,7 +16,8 @@ use Rattle.invring_app.specs.declared.given.Given.{Given}
 use Rattle.invring_app.specs.declared.words.Reading.{Reading}
 use Rattle.invring_app.specs.Words.{option_name, least, most, Part, IsSpelled, IsPart, AreParts}
 use Rattle.invring_app.specs.Numerals.{number_of}
-use Rattle.invring_app.specs.WordReading.{◌>>=◌, given_at, with_given, named, give, plain, start, step_of, steps, finish}
+use Rattle.invring_app.specs.Commands.{◌>>=◌}
+use Rattle.invring_app.specs.WordReading.{given_at, with_given, named, give, plain, start, step_of, steps, finish}
 use Rattle.invring_app.proofs.GivenLaws.{add, adds}
 use Rattle.invring_app.proofs.NumeralLaws.{number_of-some, number_of-decimal, all_ascii_digits-decimal}
 

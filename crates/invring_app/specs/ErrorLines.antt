@@ -4,15 +4,10 @@
 --   input_pieces fault   what the line of a faulty input has before its newline, in pieces
 --   bound_pieces fault   the same of a bound
 --   status_line status   the line of a status; nothing where the run is done
---   IsCommandOf ws c     the words ask for the command c; for none where they are no request
---   error_line c status  the line of a run of the command c, or of one whose words are no command: that of its status
-use Rattle.std.specs.Prelude.{◌≡◌, ℕ, Option, Some, None, List, [], ◌∷◌, ◌++◌, codes, decimal}
+use Rattle.std.specs.Prelude.{ℕ, List, [], ◌∷◌, ◌++◌, codes, decimal}
 use Rattle.alg_core.specs.declared.input_fault.InputFault.{InputFault}
 use Rattle.alg_core.specs.declared.input_fault.InputFault.TheVariants as faults
 use Rattle.alg_core.specs.declared.place.Place.TheVariants.{Byte, Line}
-use Rattle.invring_app.specs.declared.commands.Command.{Command}
-use Rattle.invring_app.specs.declared.words.Request.{Request}
-use Rattle.invring_app.specs.Words.{IsRequest}
 use Rattle.invring_app.specs.declared.status.BoundFault.{BoundFault}
 use Rattle.invring_app.specs.declared.status.BoundFault.TheVariants.{TermBound, GroupBound}
 use Rattle.invring_app.specs.declared.status.Status.{Status}
@@ -47,10 +42,3 @@ status_line (Bound fault) = line_of (bound_pieces fault)
 status_line ReadFault = line_of (codes "read" ∷ [])
 status_line WriteFault = line_of (codes "write" ∷ [])
 status_line Memory = line_of (codes "memory" ∷ [])
-
-abbrev pub IsCommandOf : List (List ℕ) → Option Command → Type 0
-IsCommandOf words None = (r : Request) → ¬ IsRequest words r
-IsCommandOf words (Some c) = (r : Request) × IsRequest words r × (r.command ≡ c)
-
-abbrev pub error_line : Option Command → Status → List ℕ
-error_line c status = status_line status

@@ -1,9 +1,10 @@
 pub mod Numerals
+pub mod Inputs
+pub mod ErrorLines
+pub mod Endings
+pub mod Commands
 pub mod Words
 pub mod WordReading
 pub mod Faults
-pub mod Inputs
-pub mod Commands
-pub mod ErrorLines
-pub mod Endings
+pub mod Answers
 pub mod Outcomes

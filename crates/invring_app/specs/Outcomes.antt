@@ -16,7 +16,9 @@
 --                           ending was written, and the count rose
 --   Completes r s l f f' g g'   where what was left reads as an input and no count rose, the status is that of an ending there, or
 --                           memory was refused
-use Rattle.std.specs.Prelude.{◌≡◌, ◌⊎◌, ℕ, ◌+◌, ◌<◌, ◌≤◌, List, [], length, take, Option, Result, Ok, Err}
+--   IsCommandOf ws c     the words ask for the command c; for none where they are no request
+--   error_line c s       the error line of a run of the command c, or of one whose words are no command: that of its status
+use Rattle.std.specs.Prelude.{◌≡◌, ◌⊎◌, ℕ, ◌+◌, ◌<◌, ◌≤◌, List, [], length, take, Option, Some, None, Result, Ok, Err}
 use Rattle.inv_outside.specs.Outside.{Rose, Gave, Took}
 use Rattle.inv_outside.specs.declared.whole.ReadFault.{ReadFault as ReadingFault}
 use Rattle.inv_outside.specs.declared.whole.ReadFault.TheVariants as reading
@@ -25,9 +27,13 @@ use Rattle.invring_app.specs.declared.fault.Fault.TheVariants as faults
 use Rattle.invring_app.specs.declared.status.Status.{Status}
 use Rattle.invring_app.specs.declared.status.Status.TheVariants.{Done, Usage, Syntax, Input, Bound, ReadFault, WriteFault, Memory}
 use Rattle.invring_app.specs.declared.words.Request.{Request}
+use Rattle.invring_app.specs.declared.commands.Command.{Command}
+use Rattle.invring_app.specs.Answers.{Ends}
 use Rattle.invring_app.specs.Commands.{reads}
 use Rattle.invring_app.specs.Endings as endings
+use Rattle.invring_app.specs.ErrorLines.{status_line}
 use Rattle.invring_app.specs.Inputs as inputs
+use Rattle.invring_app.specs.Words.{IsRequest}
 
 abbrev pub exit_code : Status → ℕ
 exit_code Done = 0
@@ -95,7 +101,7 @@ pub record EndsAt (r : Request) (left left' : Option (List ℕ)) (e : endings.En
   pub input : inputs.Input
   pub takes : inputs.Takes (reads r.command) left bytes left'
   pub read : inputs.ReadsAs (reads r.command) bytes input
-  pub ends : endings.Ends r input e
+  pub ends : Ends r input e
 
 pub record Writing (r : Request) (s : Status) (left left' taken taken' : Option (List ℕ)) (faults faults' : ℕ) : Type 0 where
   pub ended : IsEnd s → (e : endings.Ending) × (s ≡ status_of e) × EndsAt r left left' e × Took taken (output_of e) taken'
@@ -104,4 +110,11 @@ pub record Writing (r : Request) (s : Status) (left left' taken taken' : Option 
 
 abbrev pub Completes : Request → Status → Option (List ℕ) → (f f' g g' : ℕ) → Type 0
 Completes r s left f f' g g' = (i : inputs.Input) → inputs.IsLeft (reads r.command) left i → ¬ Rose f f' → ¬ Rose g g'
-    → ((e : endings.Ending) × (s ≡ status_of e) × endings.Ends r i e) ⊎ (s ≡ Memory)
+    → ((e : endings.Ending) × (s ≡ status_of e) × Ends r i e) ⊎ (s ≡ Memory)
+
+abbrev pub IsCommandOf : List (List ℕ) → Option Command → Type 0
+IsCommandOf words None = (r : Request) → ¬ IsRequest words r
+IsCommandOf words (Some c) = (r : Request) × IsRequest words r × (r.command ≡ c)
+
+abbrev pub error_line : Option Command → Status → List ℕ
+error_line c status = status_line status

@@ -1,54 +1,61 @@
 -- What words ask for.
 --
---   option_name a        how an argument of a command is named: the number by nothing, a limit by its option
---   least a, most a      the range of its values
+--   Row, row a           of an argument of a command: its option, none for the number that it needs; the range of its values, as far
+--                        as it is the same for all commands; and the limit where it is not given
+--   IsOption a           the argument has a name: it is an option
+--   limit_at l a         the limit of an option
 --   Part                 an argument with a value
 --   IsSpelled name v ws  the words ws write the value v: one word where there is no name; else the name and then the
 --                        value, or both in one word with `=` between them
---   IsInRange a v        v is in that range
+--   IsInRange a v        v is in the range of a
 --   IsPart ws part       the words write the part, and its value is in its range
 --   AreParts ws parts    the words write the parts, one after another
---   place a              the row of an argument in this list, by which two arguments are told apart
+--   place a              the place of an argument in the list of rows, by which two arguments are told apart
 --   values a parts       the values that the parts have for the argument, in their order
 --   IsChosen vs d v      v is the only one of the values vs, or the default d where there is none
---   IsRequest ws r       the words are the name of the command and parts, in any order: each option at most once, and
---                        exactly the number that the command needs; a limit is what its option says, else its default
---   AreInRange r         the number of the command and the seven limits are in their ranges
-use Rattle.std.specs.Prelude.{◌≡◌, ◌⊎◌, ℕ, ◌≤◌, All, List, [], ◌∷◌, ◌++◌, Option, Some, None, if◌then◌else◌, ◌==◌, codes, decimal}
+--   IsRequest ws r       the words are the name of the command and parts, in any order: exactly the number that the command needs, in
+--                        its range, and each option at most once; a limit is what its option says, else its default
+use Rattle.std.specs.Prelude.{◌≡◌, ◌⊎◌, ℕ, ◌≤◌, List, [], ◌∷◌, ◌++◌, Option, Some, None, if◌then◌else◌, ◌==◌, codes, decimal}
+use Rattle.alg_core.specs.declared.limits.Limits.{Limits}
 use Rattle.invring_app.specs.declared.arguments.Argument.{Argument}
 use Rattle.invring_app.specs.declared.arguments.Argument.TheVariants.{Number, MaxOrder, MaxDegree, MaxBasis, MaxTerms, MaxRank, Tries, MaxText}
 use Rattle.invring_app.specs.declared.words.Request.{Request}
-use Rattle.invring_app.specs.Commands.{command_name, numbers_of}
+use Rattle.invring_app.specs.Commands.{command_name, numbers_of, IsNumberOf}
+
+pub record Row : Type 0 where
+  pub name : Option (List ℕ)
+  pub least : ℕ
+  pub most : ℕ
+  pub default : ℕ
+
+abbrev pub row : Argument → Row
+row Number = record { name = None; least = 0; most = 268435456; default = 0 }
+row MaxOrder = record { name = Some (codes "--max-order"); least = 1; most = 1000000; default = 10000 }
+row MaxDegree = record { name = Some (codes "--max-degree"); least = 1; most = 1000; default = 60 }
+row MaxBasis = record { name = Some (codes "--max-basis"); least = 1; most = 1000; default = 200 }
+row MaxTerms = record { name = Some (codes "--max-terms"); least = 1; most = 4096; default = 2000 }
+row MaxRank = record { name = Some (codes "--max-rank"); least = 1; most = 4096; default = 512 }
+row Tries = record { name = Some (codes "--tries"); least = 1; most = 65536; default = 256 }
+row MaxText = record { name = Some (codes "--max-text"); least = 1; most = 268435456; default = 268435456 }
+
+abbrev pub limit_at : Limits → Argument → ℕ
+limit_at l Number = 0
+limit_at l MaxOrder = l.max_order
+limit_at l MaxDegree = l.max_degree
+limit_at l MaxBasis = l.max_basis
+limit_at l MaxTerms = l.max_terms
+limit_at l MaxRank = l.max_rank
+limit_at l Tries = l.tries
+limit_at l MaxText = l.max_text
 
 abbrev pub option_name : Argument → Option (List ℕ)
-option_name Number = None
-option_name MaxOrder = Some (codes "--max-order")
-option_name MaxDegree = Some (codes "--max-degree")
-option_name MaxBasis = Some (codes "--max-basis")
-option_name MaxTerms = Some (codes "--max-terms")
-option_name MaxRank = Some (codes "--max-rank")
-option_name Tries = Some (codes "--tries")
-option_name MaxText = Some (codes "--max-text")
+option_name a = (row a).name
 
 abbrev pub least : Argument → ℕ
-least Number = 0
-least MaxOrder = 1
-least MaxDegree = 1
-least MaxBasis = 1
-least MaxTerms = 1
-least MaxRank = 1
-least Tries = 1
-least MaxText = 1
+least a = (row a).least
 
 abbrev pub most : Argument → ℕ
-most Number = 1000
-most MaxOrder = 1000000
-most MaxDegree = 1000
-most MaxBasis = 1000
-most MaxTerms = 4096
-most MaxRank = 4096
-most Tries = 65536
-most MaxText = 268435456
+most a = (row a).most
 
 pub record Part : Type 0 where
   pub argument : Argument
@@ -57,6 +64,9 @@ pub record Part : Type 0 where
 abbrev pub IsSpelled : Option (List ℕ) → ℕ → List (List ℕ) → Type 0
 IsSpelled None v words = words ≡ decimal v ∷ []
 IsSpelled (Some name) v words = (words ≡ name ∷ decimal v ∷ []) ⊎ (words ≡ (name ++ (codes "=" ++ decimal v)) ∷ [])
+
+abbrev pub IsOption : Argument → Type 0
+IsOption a = (name : List ℕ) × (option_name a ≡ Some name)
 
 abbrev pub IsInRange : Argument → ℕ → Type 0
 IsInRange a v = (least a ≤ v) × (v ≤ most a)
@@ -94,20 +104,5 @@ pub record IsRequest (words : List (List ℕ)) (r : Request) : Type 0 where
   pub command : words ≡ command_name r.command ∷ rest
   pub written : AreParts rest parts
   pub numbers : values Number parts ≡ numbers_of r.command
-  pub max_order : IsChosen (values MaxOrder parts) 10000 r.limits.max_order
-  pub max_degree : IsChosen (values MaxDegree parts) 60 r.limits.max_degree
-  pub max_basis : IsChosen (values MaxBasis parts) 200 r.limits.max_basis
-  pub max_terms : IsChosen (values MaxTerms parts) 2000 r.limits.max_terms
-  pub max_rank : IsChosen (values MaxRank parts) 512 r.limits.max_rank
-  pub tries : IsChosen (values Tries parts) 256 r.limits.tries
-  pub max_text : IsChosen (values MaxText parts) 268435456 r.limits.max_text
-
-pub record AreInRange (r : Request) : Type 0 where
-  pub numbers : All (IsInRange Number) (numbers_of r.command)
-  pub max_order : IsInRange MaxOrder r.limits.max_order
-  pub max_degree : IsInRange MaxDegree r.limits.max_degree
-  pub max_basis : IsInRange MaxBasis r.limits.max_basis
-  pub max_terms : IsInRange MaxTerms r.limits.max_terms
-  pub max_rank : IsInRange MaxRank r.limits.max_rank
-  pub tries : IsInRange Tries r.limits.tries
-  pub max_text : IsInRange MaxText r.limits.max_text
+  pub range : IsNumberOf r.command
+  pub limits : (a : Argument) → IsOption a → IsChosen (values a parts) (row a).default (limit_at r.limits a)

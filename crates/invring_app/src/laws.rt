@@ -1,7 +1,8 @@
 ghost use Rattle.std.specs.Prelude.{◌≡◌, ℕ, List};
 ghost use Rattle.invring_app.specs.declared.reading.Kind.{Kind};
 ghost use Rattle.invring_app.specs.declared.words.Request.{Request};
-ghost use Rattle.invring_app.specs.Endings.{AreAlike, Ending, Ends};
+ghost use Rattle.invring_app.specs.Answers.{Ends};
+ghost use Rattle.invring_app.specs.Endings.{AreAlike, Ending};
 ghost use Rattle.invring_app.specs.Inputs.{Input, IsRefused, ReadsAs, Refusal};
 ghost use Rattle.invring_app.specs.Words.{IsRequest};
 

@@ -1,7 +1,6 @@
 //! The call of the program: it reads the words and a script, and writes the basis or the order that they ask for.
 #![tactic(auto)]
 
-mod answer;
 mod arguments;
 mod commands;
 mod digits;

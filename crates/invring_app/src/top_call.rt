@@ -1,14 +1,14 @@
 ghost use Rattle.std.specs.Prelude.{◌≡◌, ◌≢◌, ◌↔◌, ◌≤◌, ℕ, Option, length, take, map, string_bytes};
+ghost use Rattle.alg_core.specs.LimitRanges.{AreLimits};
 ghost use Rattle.inv_outside.specs.Outside.{Rose, Took};
-ghost use Rattle.invring_app.specs.Commands.{reads};
+ghost use Rattle.invring_app.specs.Commands.{IsNumberOf, reads};
 ghost use Rattle.invring_app.specs.declared.commands.Command.{Command as Asked};
 ghost use Rattle.invring_app.specs.declared.words.Request.{Request};
-ghost use Rattle.invring_app.specs.ErrorLines.{IsCommandOf, error_line};
 ghost use Rattle.invring_app.specs.Inputs.{IsReading};
-ghost use Rattle.invring_app.specs.Outcomes.{status_after, Reading, Writing, Completes, Writes};
-ghost use Rattle.invring_app.specs.Words.{AreInRange, IsRequest};
+ghost use Rattle.invring_app.specs.Outcomes.{status_after, Reading, Writing, Completes, Writes, IsCommandOf, error_line};
+ghost use Rattle.invring_app.specs.Words.{IsRequest};
 
-use crate::answer::answer;
+use crate::commands::{answer, input_of};
 use crate::error_line::write_error;
 use crate::reading::read_input;
 use crate::status::Status;
@@ -65,7 +65,8 @@ fn work<S: Source, O: Sink>(
     src: &mut S,
     out: &mut O,
 ) -> Result<(), Status>
-    requires range { AreInRange request }
+    requires number { IsNumberOf request.command }
+    requires limits { AreLimits request.limits }
     ensures asked { status_after result ≢ Status.Usage }
     ensures idle { ¬ IsReading (reads request.command) → src.new ≡ src.old }
     ensures reading { Reading request (status_after result) (S.left src.old) (S.left src.new) (S.faults src.old) (S.faults src.new) }
@@ -73,7 +74,7 @@ fn work<S: Source, O: Sink>(
     ensures complete { Completes request (status_after result) (S.left src.old) (S.faults src.old) (S.faults src.new) (O.faults out.old) (O.faults out.new) }
     ensures silent { ¬ Writes (status_after result) → out.new ≡ out.old }
 {
-    let bytes = read_input(alloc, src, request.command.reads())?;
+    let bytes = read_input(alloc, src, input_of(request.command))?;
     let text = answer(alloc, request, &bytes)?;
     write_all(out, &text)?;
     Ok(())

@@ -1,11 +1,13 @@
 //! The echelon basis of the invariants of one degree, as lines of text.
 
 ghost use Rattle.std.specs.Prelude.{◌≡◌, ◌<◌, ◌≤◌, ◌∷◌, ℕ, [], IfErr, IfOk, length, map, replicate, All};
+ghost use Rattle.alg_core.specs.LimitRanges.{AreLimits};
 ghost use Rattle.alg_core.specs.Spaces.{over, entries, Fits};
 ghost use Rattle.finvar_text.specs.Problems.{problem_in, IsSound};
 ghost use Rattle.poly_text.specs.Texts.{place_count};
 ghost use Rattle.invring_app.specs.Commands.Bases.{lines, count_of, IsBasisText, IsBoundTold};
-ghost use Rattle.invring_app.specs.Endings.{Answers, IsAnswer, IsFault};
+ghost use Rattle.invring_app.specs.Answers.{IsAnswer, IsFault};
+ghost use Rattle.invring_app.specs.Endings.{Answers};
 
 use crate::commands::Command;
 use crate::fault::Fault;
@@ -100,6 +102,7 @@ pub(crate) fn basis_text(
     limits: &Limits,
 ) -> Result<Vec<u8>, Fault>
     requires degree { degree ≤ 1000 }
+    requires limits { AreLimits limits.now }
     ensures text { IfOk result (λ text. IsAnswer (Command.Basis degree) limits.now bytes.now (Answers text.items)) }
     ensures fault { IfErr result (IsFault (Command.Basis degree) limits.now bytes.now) }
 {

@@ -1,9 +1,11 @@
 //! The order of the group that the generators of a script generate, as a line of text.
 
 ghost use Rattle.std.specs.Prelude.{◌≡◌, ◌+◌, ◌≤◌, ◌++◌, ◌∷◌, ℕ, [], IfErr, IfOk, decimal};
+ghost use Rattle.alg_core.specs.LimitRanges.{AreLimits};
 ghost use Rattle.finvar_text.specs.Problems.{problem_in, IsSound};
 ghost use Rattle.invring_app.specs.Commands.Orders.{IsOrderOf, IsGroupTold};
-ghost use Rattle.invring_app.specs.Endings.{Answers, IsAnswer, IsFault};
+ghost use Rattle.invring_app.specs.Answers.{IsAnswer, IsFault};
+ghost use Rattle.invring_app.specs.Endings.{Answers};
 
 use crate::commands::Command;
 use crate::digits::Digits;
@@ -44,7 +46,7 @@ pub(crate) fn order_text(
     bytes: &[u8],
     limits: &Limits,
 ) -> Result<Vec<u8>, Fault>
-    requires max { limits.now.max_order ≤ 1000000 }
+    requires limits { AreLimits limits.now }
     ensures text { IfOk result (λ text. IsAnswer Command.Order limits.now bytes.now (Answers text.items)) }
     ensures fault { IfErr result (IsFault Command.Order limits.now bytes.now) }
 {

@@ -1,4 +1,4 @@
-use Rattle.invring_app.proofs.EndingLaws.{ending-one}
+use Rattle.invring_app.proofs.CommandCases.{ending-one}
 use Rattle.invring_app.proofs.laws.requests_end_once.Goals as goal
 
 pub returns : goal.returns

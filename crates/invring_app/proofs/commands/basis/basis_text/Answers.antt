@@ -1,6 +1,6 @@
 use Rattle.finvar_text.specs.Problems.{problem_in}
 use Rattle.invring_app.specs.declared.commands.Command.TheVariants.{Basis}
-use Rattle.invring_app.specs.Endings.{IsFault}
+use Rattle.invring_app.specs.Answers.{IsFault}
 use Rattle.invring_app.specs.Faults.{fault_of_space}
 use Rattle.invring_app.specs.Inputs.{OfScript}
 use Rattle.invring_app.proofs.FaultLaws.{handed-on, basis-fault}
