@@ -1,10 +1,8 @@
 -- The lines of a basis, and the names of its variables.
-use Rattle.std.proofs.Common.{◌≡◌, ℕ, suc, ◌+◌, ◌<◌, ◌≤◌, List, [], ◌∷◌, ◌++◌, length, map, take, get_or, replicate, zero, All, None, sym, ap, ap₂, ◌∙◌, refl, subst, append-nil, arith, Ok, Err}
-use Rattle.std.specs.Prelude.{Result}
+use Rattle.std.proofs.Common.{◌≡◌, ℕ, suc, ◌+◌, ◌<◌, ◌≤◌, List, [], ◌∷◌, ◌++◌, length, map, take, get_or, replicate, zero, All, None, sym, ap, ap₂, ◌∙◌, refl, subst, append-nil, arith}
 use Rattle.std.proofs.lemmas.List.Elements.{All-map}
 use Rattle.std.proofs.lemmas.List.{append_assoc, take_more, map-append, length-replicate}
 use Rattle.std.proofs.Math.Seq.{take-length}
-use Rattle.alg_core.specs.Binomials.{monomials_of_degree}
 use Rattle.alg_core.specs.DpOrder.{dp_order}
 use Rattle.alg_core.specs.Spaces.{SpaceOver, over, Fits}
 use Rattle.alg_core.specs.Vectors.{Entry, vec}
@@ -15,11 +13,9 @@ use Rattle.poly_text.specs.Texts.{polynomial_text}
 use Rattle.prime_field.specs.PrimeFields.{gfp, IsPrimeField}
 use Rattle.prime_field.specs.declared.gfp.PrimeField.{PrimeField}
 use Rattle.invariant_space.specs.InvariantSpaces.{IsEchelonBasis}
-use Rattle.invariant_space.specs.declared.fault.SpaceFault.{SpaceFault}
-use Rattle.invariant_space.specs.declared.fault.SpaceFault.TheVariants as spaces
-use Rattle.finvar_text.specs.Problems.{Problem, variable_count, problem_in, IsSound}
+use Rattle.finvar_text.specs.Problems.{problem_in, IsSound}
 use Rattle.finvar_text.specs.declared.script.Script.{Script}
-use Rattle.invring_app.specs.Commands.Bases.{lines, count_of, IsBasisText, IsBoundTold}
+use Rattle.invring_app.specs.Commands.Bases.{lines, IsBasisText}
 use Rattle.invring_app.proofs.GeneratorLaws.{shapes-are}
 
 -- one line more
@@ -42,24 +38,6 @@ module _ {X : Type 0} (view : X → List (Entry ℕ)) (S : SpaceOver ℕ) (names
 -- as many weights as variables
 pub weights_many : (weights : List ℕ) (n m : ℕ) → weights ≡ replicate n 1 → n ≡ m → length weights ≡ m
 weights_many weights n m ones same = ap length ones ∙ length-replicate n 1 ∙ same
-
--- the bound is that of the variables of the script
-pub bound_is : (q : Problem) (weights : List ℕ) (d m : ℕ) (e : SpaceFault) → length weights ≡ variable_count q
-    → ((degree count : ℕ) → e ≡ spaces.TermBound degree count → (degree ≡ d) × (count ≡ monomials_of_degree (length weights) d) × (m < count)) → IsBoundTold d m q e
-bound_is q weights d m (spaces.TermBound degree count) many told =
-    let b = told degree count refl in
-    let same : count ≡ count_of d q = b.1 ∙ ap (λ (l : ℕ). monomials_of_degree l d) many in
-    (b.0, same, subst (λ (c : ℕ). m < c) same b.2)
-bound_is q weights d m spaces.Memory many told = tt
-
--- a degree with more monomials has no basis
-pub within_is : {X : Type 0} (q : Problem) (weights : List ℕ) (d m : ℕ) (r : Result X SpaceFault) (x : X) → length weights ≡ variable_count q → r ≡ Ok x
-    → (m < monomials_of_degree (length weights) d → r ≡ Err (spaces.TermBound d (monomials_of_degree (length weights) d))) → count_of d q ≤ m
-within_is q weights d m r x many ok past =
-    let count = monomials_of_degree (length weights) d in
-    let no : ¬ (m < count) = λ more. let e = past more in absurd cc in
-    let few : count ≤ m = omega arith in
-    subst (λ (n : ℕ). monomials_of_degree n d ≤ m) many few
 
 module _ {X : Type 0} (view : X → List (Entry ℕ)) (script : Script) (space : Space PrimeField Dp) (names : Names) (basis : List X) (n d : ℕ) (text : List ℕ) where
   abbrev S : SpaceOver ℕ

@@ -1,25 +1,22 @@
 -- Words are a command exactly where the reading from the left finds it.
 use Rattle.std.proofs.Common.{◌≡◌, ℕ, Bool, true, false, List, [], ◌∷◌, refl, sym, ap, subst, ◌∙◌, arith, inl, inr, Some, None, if◌then◌else◌}
-use Rattle.std.specs.Prelude.{◌⊎◌, ◌≤◌, nat_le, Option, ◌==◌, All, IfSome, IfNone, codes, is_some, unwrap_or}
-use Rattle.std.specs.Str.{bytes_eq}
-use Rattle.std.proofs.lemmas.Bool.{eqb-true, leb-true, le-leb}
+use Rattle.std.specs.Prelude.{◌⊎◌, Option, ◌==◌, All, IfSome, IfNone, unwrap_or}
+use Rattle.std.proofs.lemmas.Bool.{eqb-true}
 use Rattle.std.proofs.lemmas.List.Elements.{All-nil, All-cons, All-head}
 use Rattle.std.proofs.lemmas.Option.{same_Some}
-use Rattle.std.proofs.lemmas.Slice.Eq.{bytes_eq-Decides}
 use Rattle.alg_core.specs.LimitRanges.{IsFrom, AreLimits}
 use Rattle.alg_core.specs.declared.limits.Limits.{Limits}
 use Rattle.invring_app.specs.declared.arguments.Argument.{Argument}
 use Rattle.invring_app.specs.declared.arguments.Argument.TheVariants.{Number, MaxOrder, MaxDegree, MaxBasis, MaxTerms, MaxRank, Tries, MaxText}
 use Rattle.invring_app.specs.declared.given.Given.{Given}
 use Rattle.invring_app.specs.declared.commands.Command.{Command}
-use Rattle.invring_app.specs.declared.commands.Command.TheVariants.{Basis, Order}
 use Rattle.invring_app.specs.declared.words.Request.{Request}
 use Rattle.invring_app.specs.Commands.{◌>>=◌, command_of, command_name, numbers_of, IsNumberOf}
 use Rattle.invring_app.specs.Words.{Part, row, limit_at, option_name, least, most, IsOption, IsInRange, AreParts, place, values, IsChosen, IsRequest}
 use Rattle.invring_app.specs.WordReading.{given_at, nothing_given, limit_of, limits_of, arguments_of, request_of}
 use Rattle.invring_app.proofs.CommandCases.{listed, cell-listed, numbers-fit, IsCommandOf, command_of-some, command_of-is}
 use Rattle.invring_app.proofs.GivenLaws.{place-injective, Cell, Fits, adds-some, adds-cells}
-use Rattle.invring_app.proofs.WordLaws.{read_from, AreParts-read, Written, read-written}
+use Rattle.invring_app.proofs.WordLaws.{at-option, Number-only, read_from, AreParts-read, Written, read-written}
 
 -- the value of one argument, by the values that were given for it
 
@@ -61,42 +58,25 @@ limits-same g limits same =
     λ i. record { max_order = e0 i; max_degree = e1 i; max_basis = e2 i; max_terms = e3 i; max_rank = e4 i; tries = e5 i; max_text = e6 i }
 
 limit-same : (g : Given) (a : Argument) → IsOption a → limit_at (limits_of g) a ≡ limit_of g a
-limit-same g Number some = let no = some.1 in absurd cc
-limit-same g MaxOrder some = refl
-limit-same g MaxDegree some = refl
-limit-same g MaxBasis some = refl
-limit-same g MaxTerms some = refl
-limit-same g MaxRank some = refl
-limit-same g Tries some = refl
-limit-same g MaxText some = refl
+limit-same g a some = at-option (λ a name. limit_at (limits_of g) a ≡ limit_of g a) refl refl refl refl refl refl refl a some.0 some.1
 
-nothing-at : (a : Argument) → given_at nothing_given a ≡ None
-nothing-at Number = refl
-nothing-at MaxOrder = refl
-nothing-at MaxDegree = refl
-nothing-at MaxBasis = refl
-nothing-at MaxTerms = refl
-nothing-at MaxRank = refl
-nothing-at Tries = refl
-nothing-at MaxText = refl
+nothing-at : (a : Argument) → IsOption a → given_at nothing_given a ≡ None
+nothing-at a some = at-option (λ a name. given_at nothing_given a ≡ None) refl refl refl refl refl refl refl a some.0 some.1
 
 -- an argument of a command has at most one value
 named-or-number : (a : Argument) → (a ≡ Number) ⊎ IsOption a
-named-or-number Number = inl refl
-named-or-number MaxOrder = inr (_, refl)
-named-or-number MaxDegree = inr (_, refl)
-named-or-number MaxBasis = inr (_, refl)
-named-or-number MaxTerms = inr (_, refl)
-named-or-number MaxRank = inr (_, refl)
-named-or-number Tries = inr (_, refl)
-named-or-number MaxText = inr (_, refl)
+named-or-number a = go (option_name a) refl
+  where
+    go : (o : Option (List ℕ)) → option_name a ≡ o → (a ≡ Number) ⊎ IsOption a
+    go None is = inl (Number-only a is)
+    go (Some name) is = inr (name, is)
 
 room : (words : List (List ℕ)) (r : Request) (is : IsRequest words r) (a : Argument) → Fits (given_at nothing_given a) (values a is.parts)
-room words r is a = subst (λ (o : Option ℕ). Fits o (values a is.parts)) (sym (nothing-at a)) (go (named-or-number a))
+room words r is a = go (named-or-number a)
   where
-    go : (a ≡ Number) ⊎ IsOption a → Fits None (values a is.parts)
-    go (inl number) = subst (λ (b : Argument). Fits None (values b is.parts)) (sym number) (subst (λ (vs : List ℕ). Fits None vs) (sym is.numbers) (numbers-fit r.command))
-    go (inr some) = Fits-chosen _ (row a).default _ (is.limits a some)
+    go : (a ≡ Number) ⊎ IsOption a → Fits (given_at nothing_given a) (values a is.parts)
+    go (inl number) = subst (λ (b : Argument). Fits (given_at nothing_given b) (values b is.parts)) (sym number) (subst (λ (vs : List ℕ). Fits None vs) (sym is.numbers) (numbers-fit r.command))
+    go (inr some) = subst (λ (o : Option ℕ). Fits o (values a is.parts)) (sym (nothing-at a some)) (Fits-chosen _ (row a).default _ (is.limits a some))
 
 -- words that are a command are read
 pub IsRequest-read : (words : List (List ℕ)) (r : Request) → IsRequest words r → request_of words ≡ Some r
@@ -105,8 +85,8 @@ IsRequest-read words r is =
     let g : Given = added.0 in
     let cells = adds-cells is.parts nothing_given g added.1 in
     let numbers : listed g.number ≡ numbers_of r.command = cell-listed _ _ (cells Number) ∙ is.numbers in
-    let at : (a : Argument) → Cell None (values a is.parts) (given_at g a) = λ a. subst (λ (o : Option ℕ). Cell o (values a is.parts) (given_at g a)) (nothing-at a) (cells a) in
-    let same : limits_of g ≡ r.limits = limits-same g r.limits (λ a some. cell-chosen _ (row a).default _ _ (at a) (is.limits a some)) in
+    let at : (a : Argument) → IsOption a → Cell None (values a is.parts) (given_at g a) = λ a some. subst (λ (o : Option ℕ). Cell o (values a is.parts) (given_at g a)) (nothing-at a some) (cells a) in
+    let same : limits_of g ≡ r.limits = limits-same g r.limits (λ a some. cell-chosen _ (row a).default _ _ (at a some) (is.limits a some)) in
     ap request_of is.command
     ∙ request_of-after (command_name r.command) is.rest
     ∙ ap (λ (o : Option Given). o >>= asked (command_name r.command)) (AreParts-read is.parts is.rest nothing_given is.written ∙ added.1)
@@ -124,7 +104,7 @@ written-request w ws g c of written =
       numbers = sym (cell-listed _ _ (cells Number)) ∙ of.numbers;
       range = of.range;
       limits = λ a some. subst (IsChosen (values a written.parts) (row a).default) (sym (limit-same g a some))
-          (IsChosen-cell _ (row a).default _ (subst (λ (o : Option ℕ). Cell o (values a written.parts) (given_at g a)) (nothing-at a) (cells a)));
+          (IsChosen-cell _ (row a).default _ (subst (λ (o : Option ℕ). Cell o (values a written.parts) (given_at g a)) (nothing-at a some) (cells a)));
     }
 
 -- what is read is a command
@@ -165,23 +145,15 @@ chosen-range a [] default v within all chosen = subst (IsInRange a) (sym chosen)
 chosen-range a (x ∷ []) default v within all chosen = subst (IsInRange a) (sym chosen) (All-head (IsInRange a) x [] all)
 chosen-range a (x ∷ y ∷ xs) default v within all chosen = absurd chosen
 
-within : (a : Argument) (n : ℕ) → IsInRange a n → IsFrom (least a) (most a) n
-within a n range = record { above = range.0; below = range.1 }
-
-default-range : (a : Argument) → IsInRange a (row a).default
-default-range Number = (omega arith, omega arith)
-default-range MaxOrder = (omega arith, omega arith)
-default-range MaxDegree = (omega arith, omega arith)
-default-range MaxBasis = (omega arith, omega arith)
-default-range MaxTerms = (omega arith, omega arith)
-default-range MaxRank = (omega arith, omega arith)
-default-range Tries = (omega arith, omega arith)
-default-range MaxText = (omega arith, omega arith)
+default-range : (a : Argument) → IsOption a → IsInRange a (row a).default
+default-range a some =
+    at-option (λ a name. IsInRange a (row a).default) (omega arith, omega arith) (omega arith, omega arith) (omega arith, omega arith) (omega arith, omega arith) (omega arith, omega arith)
+    (omega arith, omega arith) (omega arith, omega arith) a some.0 some.1
 
 pub IsRequest-limits : (words : List (List ℕ)) (r : Request) → IsRequest words r → AreLimits r.limits
 IsRequest-limits words r is =
     let at : (a : Argument) → IsOption a → IsFrom (least a) (most a) (limit_at r.limits a) =
-        λ a some. within a (limit_at r.limits a) (chosen-range a _ (row a).default _ (default-range a) (values-range is.parts is.rest a is.written) (is.limits a some)) in
+    λ a some. let range = chosen-range a _ (row a).default _ (default-range a some) (values-range is.parts is.rest a is.written) (is.limits a some) in record { above = range.0; below = range.1 } in
     record { max_order = at MaxOrder (_, refl); max_degree = at MaxDegree (_, refl); max_basis = at MaxBasis (_, refl); max_terms = at MaxTerms (_, refl); max_rank = at MaxRank (_, refl); tries = at Tries (_, refl); max_text = at MaxText (_, refl) }
 
 pub IsRequest-number : (words : List (List ℕ)) (r : Request) → IsRequest words r → IsNumberOf r.command

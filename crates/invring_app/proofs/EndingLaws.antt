@@ -1,13 +1,11 @@
 -- A problem has one text of its basis of a degree, and one order of its group.
-use Rattle.std.proofs.Common.{◌≡◌, ℕ, ◌<◌, ◌≤◌, List, [], ◌∷◌, ◌++◌, length, map, All, None, refl, sym, ap, ap₂, subst, ◌∙◌, arith, if◌then◌else◌, nat_lt, get_or, ◌+◌, ◌-◌}
-use Rattle.std.specs.Prelude.{Option, decimal, replicate, slice_index_or}
+use Rattle.std.proofs.Common.{◌≡◌, ℕ, ◌<◌, List, [], ◌∷◌, ◌++◌, length, map, All, refl, sym, ap, ap₂, subst, ◌∙◌}
+use Rattle.std.specs.Prelude.{slice_index_or}
 use Rattle.std.proofs.lemmas.List.Elements.{All-nil, All-cons, All-head, All-tail}
 use Rattle.alg_core.proofs.FittingLists.{fits_unique}
-use Rattle.alg_core.specs.DpOrder.{dp_order}
 use Rattle.alg_core.specs.Fields.{FieldOn}
 use Rattle.alg_core.specs.Keys.{Key}
 use Rattle.alg_core.specs.KeyOrders.{OrderOn}
-use Rattle.alg_core.specs.PlaceOrders.{PlaceOrder}
 use Rattle.alg_core.specs.Spaces.{SpaceOver, Fits}
 use Rattle.alg_core.specs.Vectors.{Entry, Vect, vec}
 use Rattle.prime_field.specs.PrimeFields.{gfp_same, IsPrimeField}
@@ -24,10 +22,8 @@ use Rattle.poly_text.specs.declared.names.Names.{Names}
 use Rattle.invariant_space.specs.InvariantSpaces.{IsInvariantForm, IsEchelonBasis}
 use Rattle.invariant_space.proofs.EchelonBasis.{echelon_basis_unique}
 use Rattle.finvar_text.specs.Problems.{Problem, variable_count}
-use Rattle.invring_app.specs.declared.status.BoundFault.{BoundFault}
 use Rattle.invring_app.specs.Commands.Bases.{IsSpaceOf, AreMatricesOf, AreNamesOf, lines, IsBasisText}
 use Rattle.invring_app.specs.Commands.Orders.{IsOrderOf, IsOverOrderOf}
-use Rattle.invring_app.specs.ErrorLines.{bound_pieces}
 
 field-one : (p : ℕ) (k l : FieldOn ℕ) → IsPrimeField p k → IsPrimeField p l → k ≡ l
 field-one p k l h g = h.1 ∙ gfp_same p p refl h.0 g.0 ∙ sym g.1
@@ -106,9 +102,6 @@ variable-one q names other h g i =
     let primaries : names.primaries ≡ other.primaries = h.primaries ∙ sym g.primaries in
     cc
 
-variables-one : (q : Problem) (names other : Names) → AreNamesOf q names → AreNamesOf q other → variable_at names ≡ variable_at other
-variables-one q names other h g = λ j. λ i. variable-one q names other h g i j
-
 record AtSpace (q : Problem) (d : ℕ) (text : List ℕ) (S : SpaceOver ℕ) : Type 0 where
   matrices : List (Matrix ℕ)
   names : Names
@@ -126,23 +119,19 @@ text-at : (q : Problem) (d : ℕ) (text other : List ℕ) (S : SpaceOver ℕ) �
 text-at q d text other S h g =
     let shapes : map shape g.matrices ≡ map shape h.matrices = g.are_matrices ∙ sym h.are_matrices in
     let vectors = echelon_basis_unique S h.matrices d _ _ h.echelon (same-basis S d g.matrices h.matrices _ shapes g.echelon) in
-    h.is_text ∙ ap (lines S h.names) (same-members S h.basis g.basis h.fit g.fit vectors) ∙ same-names S h.names g.names g.basis (variables-one q h.names g.names h.are_names g.are_names) ∙ sym g.is_text
+    h.is_text ∙ ap (lines S h.names) (same-members S h.basis g.basis h.fit g.fit vectors) ∙ same-names S h.names g.names g.basis (λ j. λ i. variable-one q h.names g.names h.are_names g.are_names i j) ∙ sym g.is_text
 
 pub basis-text-one : (q : Problem) (d : ℕ) (text other : List ℕ) → IsBasisText q d text → IsBasisText q d other → text ≡ other
 basis-text-one q d text other h g =
     text-at q d text other g.space (subst (AtSpace q d text) (space-one q h.space g.space h.is_space g.is_space) (at-space q d text h)) (at-space q d other g)
 
--- a group has one order
+-- a group has one order, over the field of another count of it too
+
+at-field : (q : Problem) (k : FieldOn ℕ) (N : ℕ) → IsPrimeField q.characteristic k → IsOrderOf q N → IsOrder k (variable_count q) q.generators N
+at-field q k N field h = subst (λ (l : FieldOn ℕ). IsOrder l (variable_count q) q.generators N) (field-one q.characteristic h.0 k h.1 field) h.2
 
 pub order-one : (q : Problem) (M N : ℕ) → IsOrderOf q M → IsOrderOf q N → M ≡ N
-order-one q M N h g =
-    let same = field-one q.characteristic h.0 g.0 h.1 g.1 in
-    order_unique g.0 (variable_count q) q.generators M N (subst (λ (k : FieldOn ℕ). IsOrder k (variable_count q) q.generators M) same h.2) g.2
+order-one q M N h g = order_unique g.0 (variable_count q) q.generators M N (at-field q g.0 M g.1 h) g.2
 
 pub order-over : (q : Problem) (N m : ℕ) → IsOrderOf q N → IsOverOrderOf q m → m < N
-order-over q N m h g =
-    let same = field-one q.characteristic h.0 g.0 h.1 g.1 in
-    over_order g.0 (variable_count q) q.generators N m (subst (λ (k : FieldOn ℕ). IsOrder k (variable_count q) q.generators N) same h.2) g.2
-
-pub alike : (f g : BoundFault) → f ≡ g → bound_pieces f ≡ bound_pieces g
-alike f g e = ap bound_pieces e
+order-over q N m h g = over_order g.0 (variable_count q) q.generators N m (at-field q g.0 N g.1 h) g.2

@@ -1,5 +1,5 @@
 -- A fault that is handed on.
-use Rattle.std.proofs.Common.{◌≡◌, ℕ, refl, sym, ap, subst, ◌∙◌}
+use Rattle.std.proofs.Common.{◌≡◌, ℕ, sym, ap, subst}
 use Rattle.std.specs.Prelude.{List, Result, Ok, Err, IfErr, IsErrAnd}
 use Rattle.alg_core.specs.declared.limits.Limits.{Limits}
 use Rattle.finvar_text.specs.Problems.{Problem, IsProblemText}
@@ -8,8 +8,6 @@ use Rattle.invariant_space.specs.declared.fault.SpaceFault.TheVariants as spaces
 use Rattle.matrix_group.specs.declared.fault.GroupFault.{GroupFault}
 use Rattle.matrix_group.specs.declared.fault.GroupFault.TheVariants as groups
 use Rattle.invring_app.specs.declared.commands.Command.TheVariants.{Basis, Order}
-use Rattle.invring_app.specs.declared.fault.Fault.{Fault}
-use Rattle.invring_app.specs.declared.status.BoundFault.{BoundFault}
 use Rattle.invring_app.specs.declared.status.BoundFault.TheVariants.{TermBound, GroupBound}
 use Rattle.invring_app.specs.Commands.Bases.{count_of, IsBoundTold}
 use Rattle.invring_app.specs.Commands.Orders.{IsGroupTold}

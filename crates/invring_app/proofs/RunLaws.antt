@@ -1,11 +1,7 @@
 -- What was read is one thing, and what a status says of a run.
-use Rattle.std.proofs.Common.{◌≡◌, ◌≢◌, ℕ, ◌+◌, ◌<◌, ◌≤◌, List, [], ◌++◌, length, take, Some, None, inl, inr, refl, sym, ap, subst, ◌∙◌, append-nil, length-append, arith}
-use Rattle.std.specs.Prelude.{◌⊎◌, Option, Result, Ok, Err, IfSome, IsSomeAnd, IsErrAnd}
-use Rattle.inv_outside.specs.Outside.{Rose, Gave, Took}
-use Rattle.inv_outside.specs.declared.whole.ReadFault.{ReadFault as ReadingFault}
-use Rattle.inv_outside.specs.declared.whole.ReadFault.TheVariants as reading
-use Rattle.alg_core.specs.declared.input_fault.InputFault.{InputFault}
-use Rattle.alg_core.specs.declared.place.Place.{Place}
+use Rattle.std.proofs.Common.{◌≡◌, ℕ, ◌+◌, ◌≤◌, List, [], ◌++◌, length, Some, None, inl, inr, refl, sym, ap, subst, ◌∙◌, append-nil, length-append, arith}
+use Rattle.std.specs.Prelude.{Option, Result, Ok, Err, IsErrAnd}
+use Rattle.inv_outside.specs.Outside.{Took}
 use Rattle.alg_core.specs.declared.place.Place.TheVariants.{Byte, Line}
 use Rattle.finvar_text.proofs.ProblemLaws.{problem_unique, place_unique, input_unique, input_no_problem, input_no_place}
 use Rattle.invring_app.specs.declared.fault.Fault.{Fault}
@@ -20,8 +16,8 @@ use Rattle.invring_app.specs.Words.{IsRequest}
 use Rattle.invring_app.proofs.CommandLaws.{IsRequest-unique}
 use Rattle.invring_app.specs.Answers.{Ends, IsAnswer, IsFault}
 use Rattle.invring_app.specs.Endings.{Ending, StopsAt, Answers}
-use Rattle.invring_app.specs.Inputs.{Input, NoInput, OfScript, Refusal, NoText, Faulty, IsReading, most_bytes, ReadsAs, IsRefused, Takes, IsLeft}
-use Rattle.invring_app.specs.Outcomes.{refused_with, status_of, output_of, status_after, status_of_read, status_of_fault, IsEnd, Writes, Reading, EndsAt, Writing, Completes}
+use Rattle.invring_app.specs.Inputs.{Input, NoInput, OfScript, Refusal, NoText, Faulty, most_bytes, ReadsAs, IsRefused, Takes, IsLeft}
+use Rattle.invring_app.specs.Outcomes.{status_after, status_of_fault, EndsAt, Writing, Completes}
 
 -- bytes are read as one input, or refused in one way
 
@@ -64,9 +60,6 @@ all-gave whole bytes (Some rest) within takes =
     let long : length whole ≡ length bytes + length rest = ap length takes.gave ∙ length-append bytes rest in
     let nothing : rest ≡ [] = takes.end tt (omega (arith, within)) in
     takes.gave ∙ ap (λ t. bytes ++ t) nothing ∙ append-nil bytes
-
-nothing-read : (bytes : List ℕ) (i : Input) → bytes ≡ [] → ReadsAs Nothing [] i → ReadsAs Nothing bytes i
-nothing-read bytes i none = subst (λ (b : List ℕ). ReadsAs Nothing b i) (sym none)
 
 pub left-read : (kind : Kind) (left left' : Option (List ℕ)) (bytes : List ℕ) (i : Input) → Takes kind left bytes left' → IsLeft kind left i → ReadsAs kind bytes i
 left-read Nothing left left' bytes i takes is = subst (λ (b : List ℕ). ReadsAs Nothing b i) (sym (takes.none (λ x. x))) is

@@ -10,7 +10,7 @@
 --   IsBasisBound d l q f    the degree d has more of them than the limit allows, and f names d and their number
 --   IsBoundTold d m q e     e names d and their number, which is over m, or it is want of memory
 --   IsBasisAnswer d l q text   it has not, and the text is that of the basis
-use Rattle.std.specs.Prelude.{◌≡◌, ℕ, ◌<◌, ◌≤◌, List, [], ◌∷◌, ◌++◌, length, map, replicate, All, None}
+use Rattle.std.specs.Prelude.{◌≡◌, ℕ, ◌<◌, ◌≤◌, List, [], ◌∷◌, ◌++◌, map, replicate, All, None}
 use Rattle.alg_core.specs.Binomials.{monomials_of_degree}
 use Rattle.alg_core.specs.DpOrder.{dp_order}
 use Rattle.alg_core.specs.Spaces.{SpaceOver, Fits}

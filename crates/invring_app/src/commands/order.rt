@@ -41,11 +41,7 @@ fn group_order(alloc: Global, script: &Script, max_order: u64) -> Result<u64, Gr
 }
 
 /// What `order` answers to the bytes of a script.
-pub(crate) fn order_text(
-    alloc: Global,
-    bytes: &[u8],
-    limits: &Limits,
-) -> Result<Vec<u8>, Fault>
+pub(crate) fn order_text(alloc: Global, bytes: &[u8], limits: &Limits) -> Result<Vec<u8>, Fault>
     requires limits { AreLimits limits.now }
     ensures text { IfOk result (λ text. IsAnswer Command.Order limits.now bytes.now (Answers text.items)) }
     ensures fault { IfErr result (IsFault Command.Order limits.now bytes.now) }

@@ -1,4 +1,3 @@
-use Rattle.std.proofs.Common.{◌≡◌}
 use Rattle.invring_app.specs.Outcomes.{Writing, Completes}
 use Rattle.invring_app.proofs.LineLaws.{line-front}
 use Rattle.invring_app.proofs.RunLaws.{asked}

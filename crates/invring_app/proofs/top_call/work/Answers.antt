@@ -1,4 +1,4 @@
-use Rattle.std.proofs.Common.{◌≡◌, ℕ, List, sym, subst}
+use Rattle.std.proofs.Common.{ℕ, List, sym, subst}
 use Rattle.invring_app.specs.declared.reading.Kind.{Kind}
 use Rattle.invring_app.specs.declared.status.Status.{Status}
 use Rattle.invring_app.specs.Inputs.{Takes}
@@ -37,10 +37,9 @@ returns-in_err-text-clause-complete g c =
 
 pub returns-clause-complete : goal.returns-clause-complete
 returns-clause-complete g c =
-    let r = c.args.request in
     let left = g.S.Source.left c.args.src.now in
     let left' = g.S.Source.left c.read_input.new.src in
     let takes = subst (λ (k : Kind). Takes k left c.in_ok-bytes.bytes.items left') c.input_of.ensures.is c.in_ok-bytes.ensures.takes in
-    let answer = subst (λ (b : List ℕ). IsAnswer r.command r.limits b (Answers c.in_ok-text.text.items)) c.deref.ensures.value c.in_ok-text.ensures.text in
-    done-complete r (g.S.Source.left c.args.src.now) (g.S.Source.left c.read_input.new.src) (g.S.Source.faults c.args.src.now) (g.S.Source.faults c.read_input.new.src) c.in_ok-bytes.bytes.items c.in_ok-text.text.items
+    let answer = subst (λ (b : List ℕ). IsAnswer c.args.request.command c.args.request.limits b (Answers c.in_ok-text.text.items)) c.deref.ensures.value c.in_ok-text.ensures.text in
+    done-complete c.args.request (g.S.Source.left c.args.src.now) (g.S.Source.left c.read_input.new.src) (g.S.Source.faults c.args.src.now) (g.S.Source.faults c.read_input.new.src) c.in_ok-bytes.bytes.items c.in_ok-text.text.items
     (g.O.Sink.faults c.args.out.now) (g.O.Sink.faults c.write_all.new.sink) takes answer
