@@ -29,3 +29,4 @@ pub mod MonomialParts
 pub mod PolynomialSpaces
 pub mod VectorEntries
 pub mod Spans
+pub mod LimitRanges

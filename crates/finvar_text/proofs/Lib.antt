@@ -15,3 +15,4 @@ pub mod GeneratorSteps
 pub mod SingularSteps
 pub mod NameSteps
 pub mod ScriptSteps
+pub mod ProblemLaws

@@ -3,6 +3,7 @@ pub mod Trees
 pub mod Conditions
 pub mod Declarations
 pub mod Scripts
+pub mod Problems
 pub mod Grammar
 pub mod Scanning
 pub mod Parsers

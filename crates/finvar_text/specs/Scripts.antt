@@ -10,8 +10,7 @@
 --   most_bytes             the number of bytes that a script may have, 16777216
 --   IsInputFault bytes f   there are more bytes than that, and this is the fault; or the bytes have a tree, and the first condition that fails has this fault
 --   IsScriptFault bytes e  the first fault of the bytes, or want of memory
---   IsReadScript bytes r   the bytes have a tree, no condition fails, and r is its script
-use Rattle.std.specs.Prelude.{◌≡◌, ◌⊎◌, ◌≤◌, ◌<◌, ℕ, List, length, map, Some, None, true}
+use Rattle.std.specs.Prelude.{◌≡◌, ◌⊎◌, ◌≤◌, ◌<◌, ℕ, List, length, map, Some, true}
 use Rattle.alg_core.specs.Fields.{Scalar, scalars}
 use Rattle.lin_algebra.specs.Matrices.{IsMatrix, IsInverse, entries}
 use Rattle.lin_algebra.specs.declared.matrix.Matrix as lin
@@ -66,6 +65,3 @@ abbrev pub IsScriptFault : List ℕ → ScriptFault → Type 0
 IsScriptFault bytes (faults.Syntax place) = (length bytes ≤ most_bytes) × IsFirstFault bytes place
 IsScriptFault bytes (faults.Input fault) = IsInputFault bytes fault
 IsScriptFault bytes faults.Memory = Unit {0}
-
-abbrev pub IsReadScript : List ℕ → program.Script → Type 0
-IsReadScript bytes r = (length bytes ≤ most_bytes) × (t : Script) × IsText t bytes × HasFault t None × IsScriptOf t r

@@ -1,5 +1,6 @@
-ghost use Rattle.std.specs.Prelude.{◌≡◌, All, IfErr, IfOk};
-ghost use Rattle.finvar_text.specs.Scripts.{fault_of, IsInvertible, IsReadScript, IsScriptFault};
+ghost use Rattle.std.specs.Prelude.{◌≡◌, IfErr, IfOk};
+ghost use Rattle.finvar_text.specs.Problems.{problem_in, IsProblemText, IsSound};
+ghost use Rattle.finvar_text.specs.Scripts.{fault_of, IsScriptFault};
 
 use crate::fault::ScriptFault;
 use crate::scan::{SyntaxFault, syntax_tree};
@@ -26,8 +27,8 @@ fn fault_of(fault: SyntaxFault) -> ScriptFault
 /// none of the grammar, else `Input` with the first condition that fails, in the order of `InputFault`. The time is linear in
 /// the bytes and the generators.
 pub fn read_script(alloc: Global, bytes: &[u8]) -> Result<Script, ScriptFault>
-    ensures script { IfOk result (IsReadScript bytes.now) }
-    ensures invertible { IfOk result (λ r. All (IsInvertible r.characteristic) r.gens.items) }
+    ensures problem { IfOk result (λ r. IsProblemText bytes.now (problem_in r)) }
+    ensures sound { IfOk result IsSound }
     ensures fault { IfErr result (IsScriptFault bytes.now) }
 {
     if bytes.len() > MAX_BYTES {

@@ -1,22 +1,22 @@
 -- Words are a command exactly where the reading from the left finds it.
-use Rattle.std.proofs.Common.{◌≡◌, ℕ, Bool, true, false, List, [], ◌∷◌, refl, sym, ap, subst, ◌∙◌, arith, Some, None, if◌then◌else◌}
-use Rattle.std.specs.Prelude.{Option, ◌==◌, All, IfSome, IfNone, codes, is_some, unwrap_or}
-use Rattle.std.specs.Str.{bytes_eq}
+use Rattle.std.proofs.Common.{◌≡◌, ℕ, Bool, true, false, List, [], ◌∷◌, refl, sym, ap, subst, ◌∙◌, arith, inl, inr, Some, None, if◌then◌else◌}
+use Rattle.std.specs.Prelude.{◌⊎◌, Option, ◌==◌, All, IfSome, IfNone, unwrap_or}
 use Rattle.std.proofs.lemmas.Bool.{eqb-true}
 use Rattle.std.proofs.lemmas.List.Elements.{All-nil, All-cons, All-head}
 use Rattle.std.proofs.lemmas.Option.{same_Some}
-use Rattle.std.proofs.lemmas.Slice.Eq.{bytes_eq-Decides}
+use Rattle.alg_core.specs.LimitRanges.{IsFrom, AreLimits}
 use Rattle.alg_core.specs.declared.limits.Limits.{Limits}
 use Rattle.invring_app.specs.declared.arguments.Argument.{Argument}
 use Rattle.invring_app.specs.declared.arguments.Argument.TheVariants.{Number, MaxOrder, MaxDegree, MaxBasis, MaxTerms, MaxRank, Tries, MaxText}
 use Rattle.invring_app.specs.declared.given.Given.{Given}
-use Rattle.invring_app.specs.declared.words.Command.{Command}
-use Rattle.invring_app.specs.declared.words.Command.TheVariants.{Basis, Order}
+use Rattle.invring_app.specs.declared.commands.Command.{Command}
 use Rattle.invring_app.specs.declared.words.Request.{Request}
-use Rattle.invring_app.specs.Commands.{Part, IsInRange, AreParts, place, values, IsChosen, command_name, numbers_of, IsRequest, AreInRange}
-use Rattle.invring_app.specs.WordReading.{◌>>=◌, given_at, nothing_given, limits_of, arguments_of, command_of, request_of}
+use Rattle.invring_app.specs.Commands.{◌>>=◌, command_of, command_name, numbers_of, IsNumberOf}
+use Rattle.invring_app.specs.Words.{Part, row, limit_at, option_name, least, most, IsOption, IsInRange, AreParts, place, values, IsChosen, IsRequest}
+use Rattle.invring_app.specs.WordReading.{given_at, nothing_given, limit_of, limits_of, arguments_of, request_of}
+use Rattle.invring_app.proofs.CommandCases.{listed, cell-listed, numbers-fit, IsCommandOf, command_of-some, command_of-is}
 use Rattle.invring_app.proofs.GivenLaws.{place-injective, Cell, Fits, adds-some, adds-cells}
-use Rattle.invring_app.proofs.WordLaws.{read_from, AreParts-read, Written, read-written}
+use Rattle.invring_app.proofs.WordLaws.{at-option, Number-only, read_from, AreParts-read, Written, read-written}
 
 -- the value of one argument, by the values that were given for it
 
@@ -35,60 +35,6 @@ Fits-chosen [] default v chosen = tt
 Fits-chosen (x ∷ []) default v chosen = tt
 Fits-chosen (x ∷ y ∷ xs) default v chosen = absurd chosen
 
--- the number of a command, as a list
-abbrev listed : Option ℕ → List ℕ
-listed None = []
-listed (Some d) = d ∷ []
-
-cell-listed : (vs : List ℕ) (o : Option ℕ) → Cell None vs o → listed o ≡ vs
-cell-listed [] o cell = ap listed cell
-cell-listed (v ∷ []) o cell = ap listed cell
-cell-listed (v ∷ w ∷ vs) o cell = absurd cell
-
-listed-none : (o : Option ℕ) → listed o ≡ [] → o ≡ None
-listed-none None e = refl
-listed-none (Some d) e = absurd cc
-
-listed-some : (o : Option ℕ) (d : ℕ) → listed o ≡ d ∷ [] → o ≡ Some d
-listed-some None d e = absurd cc
-listed-some (Some n) d e = let same : n ≡ d = cc in ap (λ (m : ℕ). Some m) same
-
-numbers-fit : (c : Command) → Fits None (numbers_of c)
-numbers-fit (Basis d) = tt
-numbers-fit Order = tt
-
--- the command of a name and a number
-record IsCommandOf (w : List ℕ) (o : Option ℕ) (c : Command) : Type 0 where
-  name : w ≡ command_name c
-  numbers : listed o ≡ numbers_of c
-
-with-number : (w : List ℕ) (o : Option ℕ) (make : ℕ → Command) → ((d : ℕ) → (w ≡ command_name (make d)) × (d ∷ [] ≡ numbers_of (make d))) → (c : Command) → (o >>= λ d. Some (make d)) ≡ Some c → IsCommandOf w o c
-with-number w None make is c e = absurd cc
-with-number w (Some d) make is c e = subst (λ (x : Command). IsCommandOf w (Some d) x) (same_Some _ c e) (record { name = (is d).0; numbers = (is d).1 })
-
-without-number : (w : List ℕ) (o : Option ℕ) (made : Command) → w ≡ command_name made → [] ≡ numbers_of made → (c : Command) → (if is_some o then None else Some made) ≡ Some c → IsCommandOf w o c
-without-number w None made name numbers c e = subst (λ (x : Command). IsCommandOf w None x) (same_Some _ c e) (record { name = name; numbers = numbers })
-without-number w (Some d) made name numbers c e = absurd cc
-
-command-if : (w name : List ℕ) (o : Option ℕ) (first others : Option Command) → ((c : Command) → first ≡ Some c → IsCommandOf name o c) → ((c : Command) → others ≡ Some c → IsCommandOf w o c)
-    → (c : Command) → (if bytes_eq w name then first else others) ≡ Some c → IsCommandOf w o c
-command-if w name o first others this more c e = go (bytes_eq w name) refl e
-  where
-    go : (t : Bool) → bytes_eq w name ≡ t → (if t then first else others) ≡ Some c → IsCommandOf w o c
-    go true same e = subst (λ (x : List ℕ). IsCommandOf x o c) (sym ((bytes_eq-Decides w name).0 same)) (this c e)
-    go false same e = more c e
-
-command_of-some : (w : List ℕ) (o : Option ℕ) (c : Command) → command_of w o ≡ Some c → IsCommandOf w o c
-unfolding command_of
-command_of-some w o =
-    command-if w _ o _ _ (with-number _ o (λ (d : ℕ). Basis d) (λ d. (refl, refl)))
-    (command-if w _ o _ _ (without-number _ o Order refl refl) (λ c e. absurd cc))
-
-command_of-is : (c : Command) (o : Option ℕ) → listed o ≡ numbers_of c → command_of (command_name c) o ≡ Some c
-unfolding command_of
-command_of-is (Basis d) o e = ap (command_of (codes "basis")) (listed-some o d e)
-command_of-is Order o e = ap (command_of (codes "order")) (listed-none o e)
-
 -- the request of what was given
 abbrev asked : List ℕ → Given → Option Request
 asked w g = command_of w g.number >>= λ c. Some (record { command = c; limits = limits_of g })
@@ -100,20 +46,37 @@ request_of-after : (w : List ℕ) (ws : List (List ℕ)) → request_of (w ∷ w
 unfolding arguments_of
 request_of-after w ws = refl
 
-limits-same : (g : Given) (limits : Limits) → unwrap_or g.max_order 10000 ≡ limits.max_order → unwrap_or g.max_degree 60 ≡ limits.max_degree → unwrap_or g.max_basis 200 ≡ limits.max_basis → unwrap_or g.max_terms 2000 ≡ limits.max_terms → unwrap_or g.max_rank 512 ≡ limits.max_rank → unwrap_or g.tries 256 ≡ limits.tries → unwrap_or g.max_text 268435456 ≡ limits.max_text → limits_of g ≡ limits
-limits-same g limits e0 e1 e2 e3 e4 e5 e6 =
+limits-same : (g : Given) (limits : Limits) → ((a : Argument) → IsOption a → limit_of g a ≡ limit_at limits a) → limits_of g ≡ limits
+limits-same g limits same =
+    let e0 = same MaxOrder (_, refl) in
+    let e1 = same MaxDegree (_, refl) in
+    let e2 = same MaxBasis (_, refl) in
+    let e3 = same MaxTerms (_, refl) in
+    let e4 = same MaxRank (_, refl) in
+    let e5 = same Tries (_, refl) in
+    let e6 = same MaxText (_, refl) in
     λ i. record { max_order = e0 i; max_degree = e1 i; max_basis = e2 i; max_terms = e3 i; max_rank = e4 i; tries = e5 i; max_text = e6 i }
 
+limit-same : (g : Given) (a : Argument) → IsOption a → limit_at (limits_of g) a ≡ limit_of g a
+limit-same g a some = at-option (λ a name. limit_at (limits_of g) a ≡ limit_of g a) refl refl refl refl refl refl refl a some.0 some.1
+
+nothing-at : (a : Argument) → IsOption a → given_at nothing_given a ≡ None
+nothing-at a some = at-option (λ a name. given_at nothing_given a ≡ None) refl refl refl refl refl refl refl a some.0 some.1
+
 -- an argument of a command has at most one value
+named-or-number : (a : Argument) → (a ≡ Number) ⊎ IsOption a
+named-or-number a = go (option_name a) refl
+  where
+    go : (o : Option (List ℕ)) → option_name a ≡ o → (a ≡ Number) ⊎ IsOption a
+    go None is = inl (Number-only a is)
+    go (Some name) is = inr (name, is)
+
 room : (words : List (List ℕ)) (r : Request) (is : IsRequest words r) (a : Argument) → Fits (given_at nothing_given a) (values a is.parts)
-room words r is Number = subst (λ (vs : List ℕ). Fits None vs) (sym is.numbers) (numbers-fit r.command)
-room words r is MaxOrder = Fits-chosen _ 10000 r.limits.max_order is.max_order
-room words r is MaxDegree = Fits-chosen _ 60 r.limits.max_degree is.max_degree
-room words r is MaxBasis = Fits-chosen _ 200 r.limits.max_basis is.max_basis
-room words r is MaxTerms = Fits-chosen _ 2000 r.limits.max_terms is.max_terms
-room words r is MaxRank = Fits-chosen _ 512 r.limits.max_rank is.max_rank
-room words r is Tries = Fits-chosen _ 256 r.limits.tries is.tries
-room words r is MaxText = Fits-chosen _ 268435456 r.limits.max_text is.max_text
+room words r is a = go (named-or-number a)
+  where
+    go : (a ≡ Number) ⊎ IsOption a → Fits (given_at nothing_given a) (values a is.parts)
+    go (inl number) = subst (λ (b : Argument). Fits (given_at nothing_given b) (values b is.parts)) (sym number) (subst (λ (vs : List ℕ). Fits None vs) (sym is.numbers) (numbers-fit r.command))
+    go (inr some) = subst (λ (o : Option ℕ). Fits o (values a is.parts)) (sym (nothing-at a some)) (Fits-chosen _ (row a).default _ (is.limits a some))
 
 -- words that are a command are read
 pub IsRequest-read : (words : List (List ℕ)) (r : Request) → IsRequest words r → request_of words ≡ Some r
@@ -122,18 +85,12 @@ IsRequest-read words r is =
     let g : Given = added.0 in
     let cells = adds-cells is.parts nothing_given g added.1 in
     let numbers : listed g.number ≡ numbers_of r.command = cell-listed _ _ (cells Number) ∙ is.numbers in
-    let same : limits_of g ≡ r.limits = limits-same g r.limits
-    (cell-chosen _ 10000 _ _ (cells MaxOrder) is.max_order)
-    (cell-chosen _ 60 _ _ (cells MaxDegree) is.max_degree)
-    (cell-chosen _ 200 _ _ (cells MaxBasis) is.max_basis)
-    (cell-chosen _ 2000 _ _ (cells MaxTerms) is.max_terms)
-    (cell-chosen _ 512 _ _ (cells MaxRank) is.max_rank)
-    (cell-chosen _ 256 _ _ (cells Tries) is.tries)
-    (cell-chosen _ 268435456 _ _ (cells MaxText) is.max_text) in
+    let at : (a : Argument) → IsOption a → Cell None (values a is.parts) (given_at g a) = λ a some. subst (λ (o : Option ℕ). Cell o (values a is.parts) (given_at g a)) (nothing-at a some) (cells a) in
+    let same : limits_of g ≡ r.limits = limits-same g r.limits (λ a some. cell-chosen _ (row a).default _ _ (at a some) (is.limits a some)) in
     ap request_of is.command
     ∙ request_of-after (command_name r.command) is.rest
     ∙ ap (λ (o : Option Given). o >>= asked (command_name r.command)) (AreParts-read is.parts is.rest nothing_given is.written ∙ added.1)
-    ∙ ap (λ (o : Option Command). o >>= λ c. Some (record { command = c; limits = limits_of g })) (command_of-is r.command g.number numbers)
+    ∙ ap (λ (o : Option Command). o >>= λ c. Some (record { command = c; limits = limits_of g })) (command_of-is r.command g.number numbers is.range)
     ∙ ap (λ (l : Limits). Some (record { command = r.command; limits = l })) same
 
 written-request : (w : List ℕ) (ws : List (List ℕ)) (g : Given) (c : Command) → IsCommandOf w g.number c → Written nothing_given ws g → IsRequest (w ∷ ws) (record { command = c; limits = limits_of g })
@@ -145,13 +102,9 @@ written-request w ws g c of written =
       command = ap (λ (x : List ℕ). x ∷ ws) of.name;
       written = written.written;
       numbers = sym (cell-listed _ _ (cells Number)) ∙ of.numbers;
-      max_order = IsChosen-cell _ 10000 _ (cells MaxOrder);
-      max_degree = IsChosen-cell _ 60 _ (cells MaxDegree);
-      max_basis = IsChosen-cell _ 200 _ (cells MaxBasis);
-      max_terms = IsChosen-cell _ 2000 _ (cells MaxTerms);
-      max_rank = IsChosen-cell _ 512 _ (cells MaxRank);
-      tries = IsChosen-cell _ 256 _ (cells Tries);
-      max_text = IsChosen-cell _ 268435456 _ (cells MaxText);
+      range = of.range;
+      limits = λ a some. subst (IsChosen (values a written.parts) (row a).default) (sym (limit-same g a some))
+          (IsChosen-cell _ (row a).default _ (subst (λ (o : Option ℕ). Cell o (values a written.parts) (given_at g a)) (nothing-at a some) (cells a)));
     }
 
 -- what is read is a command
@@ -192,16 +145,16 @@ chosen-range a [] default v within all chosen = subst (IsInRange a) (sym chosen)
 chosen-range a (x ∷ []) default v within all chosen = subst (IsInRange a) (sym chosen) (All-head (IsInRange a) x [] all)
 chosen-range a (x ∷ y ∷ xs) default v within all chosen = absurd chosen
 
-pub IsRequest-range : (words : List (List ℕ)) (r : Request) → IsRequest words r → AreInRange r
-IsRequest-range words r is =
-    let all = λ (a : Argument). values-range is.parts is.rest a is.written in
-    record {
-      numbers = subst (λ (vs : List ℕ). All (IsInRange Number) vs) is.numbers (all Number);
-      max_order = chosen-range MaxOrder _ 10000 _ (omega arith, omega arith) (all MaxOrder) is.max_order;
-      max_degree = chosen-range MaxDegree _ 60 _ (omega arith, omega arith) (all MaxDegree) is.max_degree;
-      max_basis = chosen-range MaxBasis _ 200 _ (omega arith, omega arith) (all MaxBasis) is.max_basis;
-      max_terms = chosen-range MaxTerms _ 2000 _ (omega arith, omega arith) (all MaxTerms) is.max_terms;
-      max_rank = chosen-range MaxRank _ 512 _ (omega arith, omega arith) (all MaxRank) is.max_rank;
-      tries = chosen-range Tries _ 256 _ (omega arith, omega arith) (all Tries) is.tries;
-      max_text = chosen-range MaxText _ 268435456 _ (omega arith, omega arith) (all MaxText) is.max_text;
-    }
+default-range : (a : Argument) → IsOption a → IsInRange a (row a).default
+default-range a some =
+    at-option (λ a name. IsInRange a (row a).default) (omega arith, omega arith) (omega arith, omega arith) (omega arith, omega arith) (omega arith, omega arith) (omega arith, omega arith)
+    (omega arith, omega arith) (omega arith, omega arith) a some.0 some.1
+
+pub IsRequest-limits : (words : List (List ℕ)) (r : Request) → IsRequest words r → AreLimits r.limits
+IsRequest-limits words r is =
+    let at : (a : Argument) → IsOption a → IsFrom (least a) (most a) (limit_at r.limits a) =
+    λ a some. let range = chosen-range a _ (row a).default _ (default-range a some) (values-range is.parts is.rest a is.written) (is.limits a some) in record { above = range.0; below = range.1 } in
+    record { max_order = at MaxOrder (_, refl); max_degree = at MaxDegree (_, refl); max_basis = at MaxBasis (_, refl); max_terms = at MaxTerms (_, refl); max_rank = at MaxRank (_, refl); tries = at Tries (_, refl); max_text = at MaxText (_, refl) }
+
+pub IsRequest-number : (words : List (List ℕ)) (r : Request) → IsRequest words r → IsNumberOf r.command
+IsRequest-number words r is = is.range

@@ -6,8 +6,9 @@ use Rattle.std.proofs.lemmas.Option.{same_Some}
 use Rattle.invring_app.specs.declared.arguments.Argument.{Argument}
 use Rattle.invring_app.specs.declared.arguments.Argument.TheVariants.{Number, MaxOrder, MaxDegree, MaxBasis, MaxTerms, MaxRank, Tries, MaxText}
 use Rattle.invring_app.specs.declared.given.Given.{Given}
-use Rattle.invring_app.specs.Commands.{Part, place, values}
-use Rattle.invring_app.specs.WordReading.{◌>>=◌, given_at, with_given}
+use Rattle.invring_app.specs.Words.{Part, place, values}
+use Rattle.invring_app.specs.Commands.{◌>>=◌}
+use Rattle.invring_app.specs.WordReading.{given_at, with_given}
 
 abbrev pub add : Given → Part → Option Given
 add g part = if is_some (given_at g part.argument) then None else Some (with_given g part.argument part.value)

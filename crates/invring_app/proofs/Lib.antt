@@ -1,11 +1,13 @@
 pub mod BasisLaws
+pub mod CommandCases
 pub mod CommandLaws
 pub mod DigitLaws
+pub mod EndingLaws
+pub mod FaultLaws
+pub mod GeneratorLaws
 pub mod GivenLaws
 pub mod LineLaws
 pub mod NumeralLaws
 pub mod OrderLaws
-pub mod RefusalLaws
 pub mod RunLaws
-pub mod ScriptLaws
 pub mod WordLaws

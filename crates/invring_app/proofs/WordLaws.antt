@@ -14,9 +14,10 @@ use Rattle.invring_app.specs.declared.arguments.Argument.{Argument}
 use Rattle.invring_app.specs.declared.arguments.Argument.TheVariants.{Number, MaxOrder, MaxDegree, MaxBasis, MaxTerms, MaxRank, Tries, MaxText}
 use Rattle.invring_app.specs.declared.given.Given.{Given}
 use Rattle.invring_app.specs.declared.words.Reading.{Reading}
-use Rattle.invring_app.specs.Commands.{option_name, least, most, Part, IsSpelled, IsPart, AreParts}
+use Rattle.invring_app.specs.Words.{option_name, least, most, Part, IsSpelled, IsPart, AreParts}
 use Rattle.invring_app.specs.Numerals.{number_of}
-use Rattle.invring_app.specs.WordReading.{◌>>=◌, given_at, with_given, named, give, plain, start, step_of, steps, finish}
+use Rattle.invring_app.specs.Commands.{◌>>=◌}
+use Rattle.invring_app.specs.WordReading.{given_at, with_given, named, give, plain, start, step_of, steps, finish}
 use Rattle.invring_app.proofs.GivenLaws.{add, adds}
 use Rattle.invring_app.proofs.NumeralLaws.{number_of-some, number_of-decimal, all_ascii_digits-decimal}
 
@@ -44,16 +45,21 @@ named-some w =
     (named-if w _ Tries _ refl
     (named-if w _ MaxText _ refl (λ b e. absurd cc)))))))
 
+-- what holds of each option with its name
+pub at-option : (P : Argument → List ℕ → Type 0) → P MaxOrder (codes "--max-order") → P MaxDegree (codes "--max-degree") → P MaxBasis (codes "--max-basis") → P MaxTerms (codes "--max-terms")
+    → P MaxRank (codes "--max-rank") → P Tries (codes "--tries") → P MaxText (codes "--max-text") → (a : Argument) (name : List ℕ) → option_name a ≡ Some name → P a name
+at-option P p q r s t u v Number name is = absurd cc
+at-option P p q r s t u v MaxOrder name is = subst (P MaxOrder) (same_Some _ _ is) p
+at-option P p q r s t u v MaxDegree name is = subst (P MaxDegree) (same_Some _ _ is) q
+at-option P p q r s t u v MaxBasis name is = subst (P MaxBasis) (same_Some _ _ is) r
+at-option P p q r s t u v MaxTerms name is = subst (P MaxTerms) (same_Some _ _ is) s
+at-option P p q r s t u v MaxRank name is = subst (P MaxRank) (same_Some _ _ is) t
+at-option P p q r s t u v Tries name is = subst (P Tries) (same_Some _ _ is) u
+at-option P p q r s t u v MaxText name is = subst (P MaxText) (same_Some _ _ is) v
+
 start-name : (g : Given) (a : Argument) (name : List ℕ) → option_name a ≡ Some name → start g None name ≡ Some (record { given = g; awaited = Some a })
 unfolding named
-start-name g Number name is = absurd cc
-start-name g MaxOrder name is = subst (λ (t : List ℕ). start g None t ≡ Some (record { given = g; awaited = Some MaxOrder })) (same_Some _ _ is) refl
-start-name g MaxDegree name is = subst (λ (t : List ℕ). start g None t ≡ Some (record { given = g; awaited = Some MaxDegree })) (same_Some _ _ is) refl
-start-name g MaxBasis name is = subst (λ (t : List ℕ). start g None t ≡ Some (record { given = g; awaited = Some MaxBasis })) (same_Some _ _ is) refl
-start-name g MaxTerms name is = subst (λ (t : List ℕ). start g None t ≡ Some (record { given = g; awaited = Some MaxTerms })) (same_Some _ _ is) refl
-start-name g MaxRank name is = subst (λ (t : List ℕ). start g None t ≡ Some (record { given = g; awaited = Some MaxRank })) (same_Some _ _ is) refl
-start-name g Tries name is = subst (λ (t : List ℕ). start g None t ≡ Some (record { given = g; awaited = Some Tries })) (same_Some _ _ is) refl
-start-name g MaxText name is = subst (λ (t : List ℕ). start g None t ≡ Some (record { given = g; awaited = Some MaxText })) (same_Some _ _ is) refl
+start-name g = at-option (λ a name. start g None name ≡ Some (record { given = g; awaited = Some a })) refl refl refl refl refl refl refl
 
 start-split : (g : Given) (a : Argument) (name text : List ℕ) → let w = name ++ (codes "=" ++ text) in position_or_len (λ b. b == 61) w ≡ length name → before_first (λ b. b == 61) w ≡ name → after_first (λ b. b == 61) w ≡ text
     → named name ≡ Some a → start g None w ≡ give g a text
@@ -70,16 +76,13 @@ start-split g a name text at before after is =
     below : (m n : ℕ) → m < n → nat_lt m n ≡ true
     below m n lt = grind (arith, nat_tests)
 
-start-both : (g : Given) (a : Argument) (name text : List ℕ) → option_name a ≡ Some name → start g None (name ++ (codes "=" ++ text)) ≡ give g a text
+start-both : (g : Given) (text : List ℕ) (a : Argument) (name : List ℕ) → option_name a ≡ Some name → start g None (name ++ (codes "=" ++ text)) ≡ give g a text
 unfolding named
-start-both g Number name text is = absurd cc
-start-both g MaxOrder name text is = subst (λ (t : List ℕ). start g None (t ++ (codes "=" ++ text)) ≡ give g MaxOrder text) (same_Some _ _ is) (start-split g MaxOrder (codes "--max-order") text refl refl refl refl)
-start-both g MaxDegree name text is = subst (λ (t : List ℕ). start g None (t ++ (codes "=" ++ text)) ≡ give g MaxDegree text) (same_Some _ _ is) (start-split g MaxDegree (codes "--max-degree") text refl refl refl refl)
-start-both g MaxBasis name text is = subst (λ (t : List ℕ). start g None (t ++ (codes "=" ++ text)) ≡ give g MaxBasis text) (same_Some _ _ is) (start-split g MaxBasis (codes "--max-basis") text refl refl refl refl)
-start-both g MaxTerms name text is = subst (λ (t : List ℕ). start g None (t ++ (codes "=" ++ text)) ≡ give g MaxTerms text) (same_Some _ _ is) (start-split g MaxTerms (codes "--max-terms") text refl refl refl refl)
-start-both g MaxRank name text is = subst (λ (t : List ℕ). start g None (t ++ (codes "=" ++ text)) ≡ give g MaxRank text) (same_Some _ _ is) (start-split g MaxRank (codes "--max-rank") text refl refl refl refl)
-start-both g Tries name text is = subst (λ (t : List ℕ). start g None (t ++ (codes "=" ++ text)) ≡ give g Tries text) (same_Some _ _ is) (start-split g Tries (codes "--tries") text refl refl refl refl)
-start-both g MaxText name text is = subst (λ (t : List ℕ). start g None (t ++ (codes "=" ++ text)) ≡ give g MaxText text) (same_Some _ _ is) (start-split g MaxText (codes "--max-text") text refl refl refl refl)
+start-both g text =
+    let split = λ (a : Argument) (name : List ℕ). start-split g a name text in
+    at-option (λ a name. start g None (name ++ (codes "=" ++ text)) ≡ give g a text) (split MaxOrder (codes "--max-order") refl refl refl refl) (split MaxDegree (codes "--max-degree") refl refl refl refl)
+    (split MaxBasis (codes "--max-basis") refl refl refl refl) (split MaxTerms (codes "--max-terms") refl refl refl refl) (split MaxRank (codes "--max-rank") refl refl refl refl)
+    (split Tries (codes "--tries") refl refl refl refl) (split MaxText (codes "--max-text") refl refl refl refl)
 
 not_below : (m n : ℕ) → n ≤ m → nat_lt m n ≡ false
 not_below m n le = grind (arith, nat_tests)
@@ -101,14 +104,7 @@ no_equals (b ∷ bs) digits =
     no_equals-more b (position_or_len (λ b. b == 61) bs) (length bs) digit rest
 
 named-dashes : (a : Argument) (w : List ℕ) → option_name a ≡ Some w → get_or w 0 0 ≡ 45
-named-dashes Number w is = absurd cc
-named-dashes MaxOrder w is = subst (λ (t : List ℕ). get_or t 0 0 ≡ 45) (same_Some _ _ is) refl
-named-dashes MaxDegree w is = subst (λ (t : List ℕ). get_or t 0 0 ≡ 45) (same_Some _ _ is) refl
-named-dashes MaxBasis w is = subst (λ (t : List ℕ). get_or t 0 0 ≡ 45) (same_Some _ _ is) refl
-named-dashes MaxTerms w is = subst (λ (t : List ℕ). get_or t 0 0 ≡ 45) (same_Some _ _ is) refl
-named-dashes MaxRank w is = subst (λ (t : List ℕ). get_or t 0 0 ≡ 45) (same_Some _ _ is) refl
-named-dashes Tries w is = subst (λ (t : List ℕ). get_or t 0 0 ≡ 45) (same_Some _ _ is) refl
-named-dashes MaxText w is = subst (λ (t : List ℕ). get_or t 0 0 ≡ 45) (same_Some _ _ is) refl
+named-dashes = at-option (λ a w. get_or w 0 0 ≡ 45) refl refl refl refl refl refl refl
 
 named-digits : (w : List ℕ) → 0 < length w → all_ascii_digits w ≡ true → named w ≡ None
 named-digits [] some digits = absurd (omega arith)
@@ -204,7 +200,7 @@ then_read-part : (ws : List (List ℕ)) (o : Option Given) → then_read ws (rea
 then_read-part ws None = refl
 then_read-part ws (Some t) = refl
 
-Number-only : (a : Argument) → option_name a ≡ None → a ≡ Number
+pub Number-only : (a : Argument) → option_name a ≡ None → a ≡ Number
 Number-only Number is = refl
 Number-only MaxOrder is = absurd cc
 Number-only MaxDegree is = absurd cc
@@ -230,7 +226,7 @@ read-spelled (Some name) g a v first rest named above below (inl two) =
     ∙ then_read-part rest (add g (record { argument = a; value = v }))
 read-spelled (Some name) g a v first rest named above below (inr one) =
     ap (λ (ws : List (List ℕ)). read_from g None (ws ++ rest)) one
-    ∙ ap (then_read rest) (start-both g a name (decimal v) named ∙ give-value g a v above below)
+    ∙ ap (then_read rest) (start-both g (decimal v) a name named ∙ give-value g a v above below)
     ∙ then_read-part rest (add g (record { argument = a; value = v }))
 
 bind-same : (o : Option Given) (f h : Given → Option Given) → ((t : Given) → f t ≡ h t) → (o >>= f) ≡ (o >>= h)

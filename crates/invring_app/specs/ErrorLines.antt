@@ -1,15 +1,25 @@
 -- The line that the error stream gets.
 --
+--   piece_text p         what a piece of the program is
 --   line_of pieces       the pieces, one after another, and a newline
 --   input_pieces fault   what the line of a faulty input has before its newline, in pieces
---   error_line status    the line of a status; nothing where the run is done
+--   place_pieces p, bound_pieces fault   the same of a place and of a bound
+--   status_line status   the line of a status; nothing where the run is done
 use Rattle.std.specs.Prelude.{ℕ, List, [], ◌∷◌, ◌++◌, codes, decimal}
 use Rattle.alg_core.specs.declared.input_fault.InputFault.{InputFault}
 use Rattle.alg_core.specs.declared.input_fault.InputFault.TheVariants as faults
+use Rattle.alg_core.specs.declared.place.Place.{Place}
 use Rattle.alg_core.specs.declared.place.Place.TheVariants.{Byte, Line}
+use Rattle.invring_app.specs.declared.error_line.Piece.{Piece}
+use Rattle.invring_app.specs.declared.error_line.Piece.TheVariants.{Text, Number}
+use Rattle.invring_app.specs.declared.status.BoundFault.{BoundFault}
 use Rattle.invring_app.specs.declared.status.BoundFault.TheVariants.{TermBound, GroupBound}
 use Rattle.invring_app.specs.declared.status.Status.{Status}
 use Rattle.invring_app.specs.declared.status.Status.TheVariants.{Done, Usage, Syntax, Input, Bound, ReadFault, WriteFault, Memory}
+
+abbrev pub piece_text : Piece → List ℕ
+piece_text (Text text) = text.now
+piece_text (Number n) = decimal n
 
 abbrev pub line_of : List (List ℕ) → List ℕ
 line_of [] = 10 ∷ []
@@ -26,14 +36,20 @@ input_pieces (faults.Size name) = codes "input size " ∷ name ∷ []
 input_pieces faults.NoMatrix = codes "input none" ∷ []
 input_pieces (faults.Singular name) = codes "input singular " ∷ name ∷ []
 
-abbrev pub error_line : Status → List ℕ
-error_line Done = []
-error_line Usage = line_of (codes "usage" ∷ [])
-error_line (Syntax (Byte n)) = line_of (codes "syntax place " ∷ decimal n ∷ [])
-error_line (Syntax (Line n)) = line_of (codes "syntax line " ∷ decimal n ∷ [])
-error_line (Input fault) = line_of (input_pieces fault)
-error_line (Bound (TermBound degree count)) = line_of (codes "bound terms " ∷ decimal degree ∷ codes " " ∷ decimal count ∷ [])
-error_line (Bound (GroupBound counted)) = line_of (codes "bound group " ∷ decimal counted ∷ [])
-error_line ReadFault = line_of (codes "read" ∷ [])
-error_line WriteFault = line_of (codes "write" ∷ [])
-error_line Memory = line_of (codes "memory" ∷ [])
+abbrev pub place_pieces : Place → List (List ℕ)
+place_pieces (Byte n) = codes "syntax place " ∷ decimal n ∷ []
+place_pieces (Line n) = codes "syntax line " ∷ decimal n ∷ []
+
+abbrev pub bound_pieces : BoundFault → List (List ℕ)
+bound_pieces (TermBound degree count) = codes "bound terms " ∷ decimal degree ∷ codes " " ∷ decimal count ∷ []
+bound_pieces (GroupBound counted) = codes "bound group " ∷ decimal counted ∷ []
+
+abbrev pub status_line : Status → List ℕ
+status_line Done = []
+status_line Usage = line_of (codes "usage" ∷ [])
+status_line (Syntax place) = line_of (place_pieces place)
+status_line (Input fault) = line_of (input_pieces fault)
+status_line (Bound fault) = line_of (bound_pieces fault)
+status_line ReadFault = line_of (codes "read" ∷ [])
+status_line WriteFault = line_of (codes "write" ∷ [])
+status_line Memory = line_of (codes "memory" ∷ [])

@@ -1,32 +1,39 @@
--- How a run ends, and what it was asked.
+-- What the status of a run says of what was read and of what was written.
 --
---   exit_code status         the exit status of the program
---   IsPastReading status     the script was read: the run ended at a bound, at a write, or was done
---   Writes status            the run came to write its output
---   Asks words left r t      the words make the request r, and the bytes that were to come are told and are a text of the
---                            script t, whose values have no fault
---   count_of d t             how many monomials of degree d there are in the variables of t
---   IsTermBound fault d m t  the fault names d and that count, which is over m
---   IsGroupBound fault m t   the fault names m + 1, and the group of t has more than m elements
---   IsBoundOf c l t fault    the bound that the command c meets at the script t under the limits l: of the basis of a degree
---                            that on its monomials, of the order that on the elements of the group
---   IsWithin c l t           that bound holds
---   IsTextOf c t text        what the command prints for the script
-use Rattle.std.specs.Prelude.{◌≡◌, ℕ, ◌+◌, ◌<◌, ◌≤◌, List, length, Option, IsSomeAnd}
-use Rattle.alg_core.specs.Binomials.{monomials_of_degree}
-use Rattle.alg_core.specs.declared.limits.Limits.{Limits}
-use Rattle.invring_app.specs.declared.status.BoundFault.{BoundFault}
-use Rattle.invring_app.specs.declared.status.BoundFault.TheVariants.{TermBound, GroupBound}
+--   exit_code status        the exit status of the program
+--   refused_with x          the status of a run whose bytes were refused so
+--   status_of e, output_of e   the status of a run that ends so, and what it writes
+--   status_after result     the status of a run, done where it did not fail
+--   status_of_read, status_of_fault   the status where reading failed, and where there is no answer
+--   IsEnd status            the run came to an ending
+--   Writes status           it came to write
+--   Reading r s l l' f f'   what the status s says of a source that had l left and counted f faults, and has l' and f' after the run
+--                           of the request r: at most one byte came past the limit; a refusal is that of the bytes that came; a
+--                           read fault comes only where there is something to read and the count rose
+--   EndsAt r l l' e         some bytes came, they are read as some input, and the request ends so there
+--   Writing r s l l' t t' g g'   what it says of a sink that took t and counted g faults, and t' and g' after: at an ending it is that
+--                           of what was read, and its output was written; at a write fault a proper front of the output of an
+--                           ending was written, and the count rose
+--   Completes r s l f f' g g'   where what was left reads as an input and no count rose, the status is that of an ending there, or
+--                           memory was refused
+--   IsCommandOf ws c     the words ask for the command c; for none where they are no request
+--   error_line c s       the error line of a run of the command c, or of one whose words are no command: that of its status
+use Rattle.std.specs.Prelude.{◌≡◌, ◌⊎◌, ℕ, ◌+◌, ◌<◌, ◌≤◌, List, [], length, take, Option, Some, None, Result, Ok, Err}
+use Rattle.inv_outside.specs.Outside.{Rose, Gave, Took}
+use Rattle.inv_outside.specs.declared.whole.ReadFault.{ReadFault as ReadingFault}
+use Rattle.inv_outside.specs.declared.whole.ReadFault.TheVariants as reading
+use Rattle.invring_app.specs.declared.fault.Fault.{Fault}
+use Rattle.invring_app.specs.declared.fault.Fault.TheVariants as faults
 use Rattle.invring_app.specs.declared.status.Status.{Status}
 use Rattle.invring_app.specs.declared.status.Status.TheVariants.{Done, Usage, Syntax, Input, Bound, ReadFault, WriteFault, Memory}
-use Rattle.invring_app.specs.declared.words.Command.{Command}
-use Rattle.invring_app.specs.declared.words.Command.TheVariants.{Basis, Order}
 use Rattle.invring_app.specs.declared.words.Request.{Request}
-use Rattle.invring_app.specs.Bases.{IsBasisText}
-use Rattle.invring_app.specs.Commands.{IsRequest}
-use Rattle.invring_app.specs.Orders.{IsOrderOf, IsOverOrderOf, IsOrderText}
-use Rattle.invring_app.specs.Scripts.{IsScriptText}
-use Rattle.finvar_text.specs.Syntax.{Script}
+use Rattle.invring_app.specs.declared.commands.Command.{Command}
+use Rattle.invring_app.specs.Answers.{Ends}
+use Rattle.invring_app.specs.Commands.{reads}
+use Rattle.invring_app.specs.Endings as endings
+use Rattle.invring_app.specs.ErrorLines.{status_line}
+use Rattle.invring_app.specs.Inputs as inputs
+use Rattle.invring_app.specs.Words.{IsRequest}
 
 abbrev pub exit_code : Status → ℕ
 exit_code Done = 0
@@ -38,15 +45,41 @@ exit_code ReadFault = 6
 exit_code WriteFault = 7
 exit_code Memory = 8
 
-abbrev pub IsPastReading : Status → Type 0
-IsPastReading Done = Unit {0}
-IsPastReading Usage = ⊥
-IsPastReading (Syntax place) = ⊥
-IsPastReading (Input fault) = ⊥
-IsPastReading (Bound fault) = Unit {0}
-IsPastReading ReadFault = ⊥
-IsPastReading WriteFault = Unit {0}
-IsPastReading Memory = ⊥
+abbrev pub refused_with : inputs.Refusal → Status
+refused_with (inputs.NoText p) = Syntax p
+refused_with (inputs.Faulty f) = Input f
+
+abbrev pub status_of : endings.Ending → Status
+status_of (endings.StopsAt f) = Bound f
+status_of (endings.Answers text) = Done
+
+abbrev pub output_of : endings.Ending → List ℕ
+output_of (endings.StopsAt f) = []
+output_of (endings.Answers text) = text
+
+abbrev pub status_after : {T : Type 0} → Result T Status → Status
+status_after (Ok done) = Done
+status_after (Err status) = status
+
+abbrev pub status_of_read : ReadingFault → Status
+status_of_read reading.Failed = ReadFault
+status_of_read reading.Memory = Memory
+
+abbrev pub status_of_fault : Fault → Status
+status_of_fault (faults.Syntax p) = Syntax p
+status_of_fault (faults.Input f) = Input f
+status_of_fault (faults.Bound f) = Bound f
+status_of_fault faults.Memory = Memory
+
+abbrev pub IsEnd : Status → Type 0
+IsEnd Done = Unit {0}
+IsEnd Usage = ⊥
+IsEnd (Syntax place) = ⊥
+IsEnd (Input fault) = ⊥
+IsEnd (Bound fault) = Unit {0}
+IsEnd ReadFault = ⊥
+IsEnd WriteFault = ⊥
+IsEnd Memory = ⊥
 
 abbrev pub Writes : Status → Type 0
 Writes Done = Unit {0}
@@ -58,27 +91,30 @@ Writes ReadFault = ⊥
 Writes WriteFault = Unit {0}
 Writes Memory = ⊥
 
-pub record Asks (words : List (List ℕ)) (left : Option (List ℕ)) (r : Request) (t : Script) : Type 0 where
-  pub request : IsRequest words r
-  pub script : IsSomeAnd left (λ bytes. IsScriptText bytes t)
+pub record Reading (r : Request) (s : Status) (left left' : Option (List ℕ)) (faults faults' : ℕ) : Type 0 where
+  pub gave : (bytes : List ℕ) × (length bytes ≤ inputs.most_bytes (reads r.command) + 1) × Gave left bytes left'
+  pub refused : (x : inputs.Refusal) → s ≡ refused_with x → (bytes : List ℕ) × inputs.Takes (reads r.command) left bytes left' × inputs.IsRefused (reads r.command) bytes x
+  pub fault : s ≡ ReadFault → inputs.IsReading (reads r.command) × Rose faults faults'
 
-abbrev pub count_of : ℕ → Script → ℕ
-count_of d t = monomials_of_degree (length t.variables) d
+pub record EndsAt (r : Request) (left left' : Option (List ℕ)) (e : endings.Ending) : Type 0 where
+  pub bytes : List ℕ
+  pub input : inputs.Input
+  pub takes : inputs.Takes (reads r.command) left bytes left'
+  pub read : inputs.ReadsAs (reads r.command) bytes input
+  pub ends : Ends r input e
 
-abbrev pub IsTermBound : BoundFault → ℕ → ℕ → Script → Type 0
-IsTermBound fault d m t = (fault ≡ TermBound d (count_of d t)) × (m < count_of d t)
+pub record Writing (r : Request) (s : Status) (left left' taken taken' : Option (List ℕ)) (faults faults' : ℕ) : Type 0 where
+  pub ended : IsEnd s → (e : endings.Ending) × (s ≡ status_of e) × EndsAt r left left' e × Took taken (output_of e) taken'
+  pub cut : s ≡ WriteFault → (e : endings.Ending) × (k : ℕ) × EndsAt r left left' e × (k < length (output_of e)) × Took taken (take k (output_of e)) taken'
+  pub fault : s ≡ WriteFault → Rose faults faults'
 
-abbrev pub IsGroupBound : BoundFault → ℕ → Script → Type 0
-IsGroupBound fault m t = (fault ≡ GroupBound (m + 1)) × IsOverOrderOf t m
+abbrev pub Completes : Request → Status → Option (List ℕ) → (f f' g g' : ℕ) → Type 0
+Completes r s left f f' g g' = (i : inputs.Input) → inputs.IsLeft (reads r.command) left i → ¬ Rose f f' → ¬ Rose g g'
+    → ((e : endings.Ending) × (s ≡ status_of e) × Ends r i e) ⊎ (s ≡ Memory)
 
-abbrev pub IsBoundOf : Command → Limits → Script → BoundFault → Type 0
-IsBoundOf (Basis d) limits t fault = IsTermBound fault d limits.max_terms t
-IsBoundOf Order limits t fault = IsGroupBound fault limits.max_order t
+abbrev pub IsCommandOf : List (List ℕ) → Option Command → Type 0
+IsCommandOf words None = (r : Request) → ¬ IsRequest words r
+IsCommandOf words (Some c) = (r : Request) × IsRequest words r × (r.command ≡ c)
 
-abbrev pub IsWithin : Command → Limits → Script → Type 0
-IsWithin (Basis d) limits t = count_of d t ≤ limits.max_terms
-IsWithin Order limits t = (N : ℕ) × IsOrderOf t N × (N ≤ limits.max_order)
-
-abbrev pub IsTextOf : Command → Script → List ℕ → Type 0
-IsTextOf (Basis d) t text = IsBasisText t d text
-IsTextOf Order t text = IsOrderText t text
+abbrev pub error_line : Option Command → Status → List ℕ
+error_line c status = status_line status

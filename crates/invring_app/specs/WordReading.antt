@@ -1,10 +1,10 @@
 -- Reading the words of a command from the left, or None where they are none.
 --
---   o >>= f               what f makes of the value of o, None where there is none
 --   given_at g a          what was given for the argument a
 --   with_given g a v      the same with v for a
 --   nothing_given         no argument has a value
---   limits_of g           the limits that were given, and the defaults of the others
+--   limit_of g a          the limit that was given for an option, or its default
+--   limits_of g           all of them
 --   named w               the option of this name
 --   give g a text         what is given with the number that the text writes for a, which is to have none before
 --   plain g w o           what is read at the word w without a `=`, where the option o has that name
@@ -13,7 +13,6 @@
 --   steps s ws            what is read with the words ws more
 --   finish s              what was given, where no option awaits its value
 --   arguments_of ws       what the words after the command give
---   command_of w o        the command with the name w and the number o, where there is one exactly if it needs one
 --   request_of ws         what the words ask for
 use Rattle.std.specs.Prelude.{ℕ, ◌==◌, nat_lt, List, [], ◌∷◌, length, Option, Some, None, is_some, unwrap_or, if◌then◌else◌, codes}
 use Rattle.std.specs.List.{position_or_len, before_first, after_first}
@@ -22,17 +21,11 @@ use Rattle.alg_core.specs.declared.limits.Limits.{Limits}
 use Rattle.invring_app.specs.declared.arguments.Argument.{Argument}
 use Rattle.invring_app.specs.declared.arguments.Argument.TheVariants.{Number, MaxOrder, MaxDegree, MaxBasis, MaxTerms, MaxRank, Tries, MaxText}
 use Rattle.invring_app.specs.declared.given.Given.{Given}
-use Rattle.invring_app.specs.declared.words.Command.{Command}
-use Rattle.invring_app.specs.declared.words.Command.TheVariants.{Basis, Order}
 use Rattle.invring_app.specs.declared.words.Reading.{Reading}
 use Rattle.invring_app.specs.declared.words.Request.{Request}
-use Rattle.invring_app.specs.Commands.{least, most}
+use Rattle.invring_app.specs.Commands.{◌>>=◌, command_of}
+use Rattle.invring_app.specs.Words.{row, least, most}
 use Rattle.invring_app.specs.Numerals.{number_of}
-
-infixl 10 ◌>>=◌
-abbrev pub ◌>>=◌ : {A B : Type 0} → Option A → (A → Option B) → Option B
-(Some x) >>= f = f x
-None >>= f = None
 
 abbrev pub given_at : Given → Argument → Option ℕ
 given_at g Number = g.number
@@ -57,15 +50,18 @@ with_given g MaxText v = record g { max_text = Some v }
 abbrev pub nothing_given : Given
 nothing_given = record { number = None; max_order = None; max_degree = None; max_basis = None; max_terms = None; max_rank = None; tries = None; max_text = None }
 
+abbrev pub limit_of : Given → Argument → ℕ
+limit_of g a = unwrap_or (given_at g a) (row a).default
+
 abbrev pub limits_of : Given → Limits
 limits_of g = record {
-  max_order = unwrap_or g.max_order 10000;
-  max_degree = unwrap_or g.max_degree 60;
-  max_basis = unwrap_or g.max_basis 200;
-  max_terms = unwrap_or g.max_terms 2000;
-  max_rank = unwrap_or g.max_rank 512;
-  tries = unwrap_or g.tries 256;
-  max_text = unwrap_or g.max_text 268435456;
+  max_order = limit_of g MaxOrder;
+  max_degree = limit_of g MaxDegree;
+  max_basis = limit_of g MaxBasis;
+  max_terms = limit_of g MaxTerms;
+  max_rank = limit_of g MaxRank;
+  tries = limit_of g Tries;
+  max_text = limit_of g MaxText;
 }
 
 unfoldable pub named : List ℕ → Option Argument
@@ -107,12 +103,6 @@ finish g None = Some g
 
 unfoldable pub arguments_of : List (List ℕ) → Option Given
 arguments_of ws = steps (record { given = nothing_given; awaited = None }) ws >>= λ s. finish s.given s.awaited
-
-unfoldable pub command_of : List ℕ → Option ℕ → Option Command
-command_of w number =
-    if bytes_eq w (codes "basis") then (number >>= λ d. Some (Basis d))
-    else (if bytes_eq w (codes "order") then (if is_some number then None else Some Order)
-    else None)
 
 abbrev pub request_of : List (List ℕ) → Option Request
 request_of [] = None

@@ -15,7 +15,7 @@ pub(crate) enum Argument {
 
 impl Argument {
     ghost use Rattle.std.specs.Prelude.{◌≡◌};
-    ghost use Rattle.invring_app.specs.Commands.{least, most};
+    ghost use Rattle.invring_app.specs.Words.{least, most};
     ghost use Rattle.invring_app.specs.WordReading.{named};
 
     /// The option of this name.
@@ -45,12 +45,12 @@ impl Argument {
         }
     }
 
-    /// The greatest value.
+    /// The greatest value; of a number one that no command takes.
     pub fn most(self) -> u32
         ensures is { result ≡ most self }
     {
         match self {
-            Argument::Number => 1000,
+            Argument::Number => 268435456,
             Argument::MaxOrder => 1000000,
             Argument::MaxDegree => 1000,
             Argument::MaxBasis => 1000,

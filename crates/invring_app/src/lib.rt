@@ -1,20 +1,23 @@
 //! The call of the program: it reads the words and a script, and writes the basis or the order that they ask for.
 #![tactic(auto)]
 
-mod answer;
 mod arguments;
-mod basis;
+mod commands;
 mod digits;
 mod error_line;
+mod fault;
 mod field;
 mod given;
+mod laws;
 mod number;
-mod order;
+mod reading;
 mod status;
 mod top_call;
 mod words;
 
+pub use commands::Command;
 pub use error_line::write_error;
+pub use laws::{bytes_are_read_once, requests_end_once, words_ask_once};
 pub use status::{BoundFault, Status};
 pub use top_call::run;
-pub use words::{Command, Request, words_ask_once};
+pub use words::Request;

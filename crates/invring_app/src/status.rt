@@ -1,9 +1,9 @@
-ghost use Rattle.std.specs.Prelude.{◌≡◌};
-
+use crate::fault::Fault;
 use alg_core::{InputFault, Place};
+use inv_outside::{Failed, ReadFault};
 
 /// A bound of the program that was met.
-#[derive(Clone, Copy, Debug, PartialEq, Eq)]
+#[derive(Debug, Drop)]
 pub enum BoundFault {
     /// A degree was needed that has more monomials than the limit.
     TermBound { degree: u32, count: u128 },
@@ -12,7 +12,7 @@ pub enum BoundFault {
 }
 
 /// How a run ended.
-#[derive(Debug, Drop, PartialEq, Eq)]
+#[derive(Debug, Drop)]
 pub enum Status {
     Done,
     /// The words are no command.
@@ -31,7 +31,8 @@ pub enum Status {
 }
 
 impl Status {
-    ghost use Rattle.invring_app.specs.Outcomes.{exit_code};
+    ghost use Rattle.std.specs.Prelude.{◌≡◌};
+    ghost use Rattle.invring_app.specs.Outcomes.{exit_code, status_after};
 
     /// The exit status of the program.
     pub fn code(&self) -> u8
@@ -47,5 +48,56 @@ impl Status {
             Status::WriteFault => 7,
             Status::Memory => 8,
         }
+    }
+
+    /// The status of a run with this outcome.
+    pub(crate) fn after(outcome: Result<(), Status>) -> Status
+        ensures is { result ≡ status_after outcome }
+    {
+        match outcome {
+            Ok(()) => Status::Done,
+            Err(status) => status,
+        }
+    }
+}
+
+impl From<ReadFault> for Status {
+    ghost use Rattle.std.specs.Prelude.{◌≡◌};
+    ghost use Rattle.invring_app.specs.Outcomes.{status_of_read};
+
+    ghost from_gives = { λ e s. s ≡ status_of_read e };
+
+    fn from(fault: ReadFault) -> Status {
+        match fault {
+            ReadFault::Failed => Status::ReadFault,
+            ReadFault::Memory => Status::Memory,
+        }
+    }
+}
+
+impl From<Fault> for Status {
+    ghost use Rattle.std.specs.Prelude.{◌≡◌};
+    ghost use Rattle.invring_app.specs.Outcomes.{status_of_fault};
+
+    ghost from_gives = { λ e s. s ≡ status_of_fault e };
+
+    fn from(fault: Fault) -> Status {
+        match fault {
+            Fault::Syntax(place) => Status::Syntax(place),
+            Fault::Input(fault) => Status::Input(fault),
+            Fault::Bound(fault) => Status::Bound(fault),
+            Fault::Memory => Status::Memory,
+        }
+    }
+}
+
+impl From<Failed> for Status {
+    ghost use Rattle.std.specs.Prelude.{◌≡◌};
+    ghost use Rattle.invring_app.specs.declared.status.Status.TheVariants as statuses;
+
+    ghost from_gives = { λ _ s. s ≡ statuses.WriteFault };
+
+    fn from(_: Failed) -> Status {
+        Status::WriteFault
     }
 }

@@ -1,21 +1,15 @@
-ghost use Rattle.std.specs.Prelude.{◌≡◌, ℕ, List, IfSome, IfNone, map, string_bytes};
-ghost use Rattle.invring_app.specs.Commands.{IsRequest, AreInRange};
-ghost use Rattle.invring_app.specs.WordReading.{give, step_of, arguments_of, command_of, request_of};
+ghost use Rattle.std.specs.Prelude.{◌≡◌, IfSome, IfNone, map, string_bytes};
+ghost use Rattle.alg_core.specs.LimitRanges.{AreLimits};
+ghost use Rattle.invring_app.specs.Commands.{IsNumberOf};
+ghost use Rattle.invring_app.specs.Words.{IsRequest};
+ghost use Rattle.invring_app.specs.WordReading.{give, step_of, arguments_of, request_of};
 ghost use Rattle.invring_app.specs.declared.words.Request.{Request as Asked};
 
 use crate::arguments::Argument;
+use crate::commands::{Command, command_in};
 use crate::given::Given;
 use crate::number::number;
 use alg_core::Limits;
-
-/// What is to be done.
-#[derive(Clone, Copy, Debug, PartialEq, Eq)]
-pub enum Command {
-    /// The echelon basis of the invariants of one degree.
-    Basis { degree: u32 },
-    /// The order of the group.
-    Order,
-}
 
 /// What the words ask for.
 #[derive(Clone, Copy, Debug, PartialEq, Eq)]
@@ -92,18 +86,6 @@ fn arguments_in(words: &[String]) -> Option<Given>
     }
 }
 
-/// The command of this name, with the number that was given exactly where it needs one.
-#[tactic(auto, unfolding(crate::specs::WordReading::command_of))]
-fn command_in(name: &str, number: Option<u32>) -> Option<Command>
-    ensures is { result ≡ command_of name.now number }
-{
-    match name {
-        "basis" => number.map(|degree| Command::Basis { degree }),
-        "order" => number.is_none().then_some(Command::Order),
-        _ => None,
-    }
-}
-
 /// What the words ask for, by their reading from the left.
 fn request_in(words: &[String]) -> Option<Request>
     ensures is { result ≡ request_of (map string_bytes words.now) }
@@ -120,13 +102,9 @@ fn request_in(words: &[String]) -> Option<Request>
 /// What the words ask for. It takes no memory.
 pub(crate) fn read_words(words: &[String]) -> Option<Request>
     ensures some { IfSome result (IsRequest (map string_bytes words.now)) }
-    ensures range { IfSome result AreInRange }
+    ensures number { IfSome result (λ r. IsNumberOf r.command) }
+    ensures limits { IfSome result (λ r. AreLimits r.limits) }
     ensures none { IfNone result ((r : Asked) → ¬ IsRequest (map string_bytes words.now) r) }
 {
     request_in(words)
 }
-
-/// A law: words are at most one command.
-pub fn words_ask_once()
-    ensures one { (words : List (List ℕ)) (r : Asked) (s : Asked) → IsRequest words r → IsRequest words s → r ≡ s }
-{}

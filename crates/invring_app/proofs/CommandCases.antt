@@ -1,0 +1,90 @@
+-- What is proved by cases of the command: its name and number, and that it ends in one way.
+use Rattle.std.proofs.Common.{◌≡◌, ℕ, ◌≤◌, Bool, true, false, List, [], ◌∷◌, ◌++◌, refl, sym, ap, subst, ◌∙◌, arith, Some, None, if◌then◌else◌}
+use Rattle.std.specs.Prelude.{nat_le, Option, codes, decimal, is_some}
+use Rattle.std.specs.Str.{bytes_eq}
+use Rattle.std.proofs.lemmas.Bool.{leb-true, le-leb}
+use Rattle.std.proofs.lemmas.Option.{same_Some}
+use Rattle.std.proofs.lemmas.Slice.Eq.{bytes_eq-Decides}
+use Rattle.alg_core.specs.declared.limits.Limits.{Limits}
+use Rattle.invring_app.specs.declared.commands.Command.{Command}
+use Rattle.invring_app.specs.declared.commands.Command.TheVariants.{Basis, Order}
+use Rattle.invring_app.specs.Commands.{◌>>=◌, command_name, numbers_of, IsNumberOf, command_of, EndsAs}
+use Rattle.invring_app.specs.Endings.{Ending, StopsAt, Answers, AreAlike}
+use Rattle.invring_app.specs.ErrorLines.{bound_pieces}
+use Rattle.invring_app.specs.Inputs.{Input, NoInput, OfScript}
+use Rattle.invring_app.proofs.EndingLaws.{basis-text-one, order-one, order-over}
+use Rattle.invring_app.proofs.GivenLaws.{Cell, Fits}
+
+-- the number of a command, as a list
+abbrev pub listed : Option ℕ → List ℕ
+listed None = []
+listed (Some d) = d ∷ []
+
+pub cell-listed : (vs : List ℕ) (o : Option ℕ) → Cell None vs o → listed o ≡ vs
+cell-listed [] o cell = ap listed cell
+cell-listed (v ∷ []) o cell = ap listed cell
+cell-listed (v ∷ w ∷ vs) o cell = absurd cell
+
+listed-none : (o : Option ℕ) → listed o ≡ [] → o ≡ None
+listed-none None e = refl
+listed-none (Some d) e = absurd cc
+
+listed-some : (o : Option ℕ) (d : ℕ) → listed o ≡ d ∷ [] → o ≡ Some d
+listed-some None d e = absurd cc
+listed-some (Some n) d e = let same : n ≡ d = cc in ap (λ (m : ℕ). Some m) same
+
+pub numbers-fit : (c : Command) → Fits None (numbers_of c)
+numbers-fit (Basis d) = tt
+numbers-fit Order = tt
+
+-- the command of a name and a number
+pub record IsCommandOf (w : List ℕ) (o : Option ℕ) (c : Command) : Type 0 where
+  pub name : w ≡ command_name c
+  pub numbers : listed o ≡ numbers_of c
+  pub range : IsNumberOf c
+
+with-number : (w : List ℕ) (o : Option ℕ) (most : ℕ) (make : ℕ → Command) → ((d : ℕ) → d ≤ most → (w ≡ command_name (make d)) × (d ∷ [] ≡ numbers_of (make d)) × IsNumberOf (make d))
+    → (c : Command) → (o >>= λ d. if nat_le d most then Some (make d) else None) ≡ Some c → IsCommandOf w o c
+with-number w None most make is c e = absurd cc
+with-number w (Some d) most make is c e = go (nat_le d most) refl e
+  where
+    go : (t : Bool) → nat_le d most ≡ t → (if t then Some (make d) else None) ≡ Some c → IsCommandOf w (Some d) c
+    go true test e = let made = is d (leb-true d most test) in subst (λ (x : Command). IsCommandOf w (Some d) x) (same_Some _ c e) (record { name = made.0; numbers = made.1; range = made.2 })
+    go false test e = absurd cc
+
+without-number : (w : List ℕ) (o : Option ℕ) (made : Command) → w ≡ command_name made → [] ≡ numbers_of made → IsNumberOf made → (c : Command) → (if is_some o then None else Some made) ≡ Some c → IsCommandOf w o c
+without-number w None made name numbers range c e = subst (λ (x : Command). IsCommandOf w None x) (same_Some _ c e) (record { name = name; numbers = numbers; range = range })
+without-number w (Some d) made name numbers range c e = absurd cc
+
+command-if : (w name : List ℕ) (o : Option ℕ) (first others : Option Command) → ((c : Command) → first ≡ Some c → IsCommandOf name o c) → ((c : Command) → others ≡ Some c → IsCommandOf w o c)
+    → (c : Command) → (if bytes_eq w name then first else others) ≡ Some c → IsCommandOf w o c
+command-if w name o first others this more c e = go (bytes_eq w name) refl e
+  where
+    go : (t : Bool) → bytes_eq w name ≡ t → (if t then first else others) ≡ Some c → IsCommandOf w o c
+    go true same e = subst (λ (x : List ℕ). IsCommandOf x o c) (sym ((bytes_eq-Decides w name).0 same)) (this c e)
+    go false same e = more c e
+
+pub command_of-some : (w : List ℕ) (o : Option ℕ) (c : Command) → command_of w o ≡ Some c → IsCommandOf w o c
+unfolding command_of
+command_of-some w o =
+    command-if w _ o _ _ (with-number _ o 1000 (λ (d : ℕ). Basis d) (λ d l. (refl, refl, l)))
+    (command-if w _ o _ _ (without-number _ o Order refl refl tt) (λ c e. absurd cc))
+
+pub command_of-is : (c : Command) (o : Option ℕ) → listed o ≡ numbers_of c → IsNumberOf c → command_of (command_name c) o ≡ Some c
+unfolding command_of
+command_of-is (Basis d) o e range = ap (command_of (codes "basis")) (listed-some o d e) ∙ ap (λ (t : Bool). if t then Some (Basis d) else None) (le-leb d 1000 range)
+command_of-is Order o e range = ap (command_of (codes "order")) (listed-none o e)
+
+-- a command ends in one way
+
+pub ending-one : (c : Command) (l : Limits) (i : Input) (e f : Ending) → EndsAs c l i e → EndsAs c l i f → AreAlike e f
+ending-one (Basis d) l NoInput e f h g = absurd h
+ending-one (Basis d) l (OfScript q) (StopsAt x) (StopsAt y) h g = ap bound_pieces (h.0 ∙ sym g.0)
+ending-one (Basis d) l (OfScript q) (StopsAt x) (Answers text) h g = let over = h.1 in let few = g.0 in omega arith
+ending-one (Basis d) l (OfScript q) (Answers text) (StopsAt y) h g = let over = g.1 in let few = h.0 in omega arith
+ending-one (Basis d) l (OfScript q) (Answers text) (Answers other) h g = basis-text-one q d text other h.1 g.1
+ending-one Order l NoInput e f h g = absurd h
+ending-one Order l (OfScript q) (StopsAt x) (StopsAt y) h g = ap bound_pieces (h.0 ∙ sym g.0)
+ending-one Order l (OfScript q) (StopsAt x) (Answers text) h g = let over = order-over q g.0 l.max_order g.1 h.1 in let few = g.2 in omega arith
+ending-one Order l (OfScript q) (Answers text) (StopsAt y) h g = let over = order-over q h.0 l.max_order h.1 g.1 in let few = h.2 in omega arith
+ending-one Order l (OfScript q) (Answers text) (Answers other) h g = h.3 ∙ ap (λ (n : ℕ). decimal n ++ 10 ∷ []) (order-one q h.0 g.0 h.1 g.1) ∙ sym g.3

@@ -1,0 +1,23 @@
+use Rattle.std.proofs.Common.{◌≡◌, ℕ, List, All, sym, subst, ◌∙◌}
+use Rattle.alg_core.specs.DpOrder.{dp_order}
+use Rattle.alg_core.specs.Spaces.{over, entries}
+use Rattle.alg_core.specs.Vectors.{Entry}
+use Rattle.alg_core.specs.declared.dp.Dp.{Dp}
+use Rattle.prime_field.specs.PrimeFields.{gfp}
+use Rattle.prime_field.specs.declared.gfp.PrimeField.{PrimeField}
+use Rattle.invring_app.proofs.BasisLaws.{lines_next, lines_all}
+use Rattle.invring_app.proofs.commands.basis.lines.Goals as goal
+
+pub print_poly-requires-clause-polynomial : goal.print_poly-requires-clause-polynomial
+print_poly-requires-clause-polynomial c = subst (λ p. All (λ (e : Entry ℕ). e.0.0 ≡ 0) (entries (λ (m : List ℕ). m) p)) (sym c.index-basis-i.is) (c.requires.polynomials c.loop-i.i c.index-basis-i.result c.loop-i-test.true)
+
+pub loop-i-preserved : goal.loop-i-preserved
+loop-i-preserved c =
+    let S = over (λ (f : PrimeField). gfp f.p f.listed) (λ (o : Dp). dp_order o.weights.items) c.args.space.now in
+    lines_next (entries (λ (m : List ℕ). m)) S c.args.names.now c.args.basis.now c.loop-i.i c.index-basis-i.result c.loop-i.text.items c.in_ok-line.line.items c.deref.result.now c.extend_from_slice.new.self.items c.push.new.self.items
+    c.loop-i-test.true c.index-basis-i.is c.loop-i.invariant c.in_ok-line.ensures.text c.deref.ensures.value c.in_ok-extend_from_slice.ensures.items c.in_ok-push.ensures.items
+
+pub returns : goal.returns
+returns c =
+    let S = over (λ (f : PrimeField). gfp f.p f.listed) (λ (o : Dp). dp_order o.weights.items) c.args.space.now in
+    record { text = c.loop-i.invariant ∙ lines_all (entries (λ (m : List ℕ). m)) S c.args.names.now c.args.basis.now c.loop-i.i c.loop-i.auto.i-end c.loop-i-test.false }

@@ -1,5 +1,0 @@
-use Rattle.invring_app.proofs.CommandLaws.{IsRequest-unique}
-use Rattle.invring_app.proofs.words.words_ask_once.Goals as goal
-
-pub returns : goal.returns
-returns c = record { one = IsRequest-unique }

@@ -1,0 +1,28 @@
+-- What becomes of a fault of a layer below.
+--
+--   fault_of_script e   a syntax fault at its byte, a faulty input, or want of memory
+--   fault_of_space e    the bound on the monomials of a degree, or want of memory
+--   fault_of_group e    the bound on the elements of the group, or want of memory
+use Rattle.alg_core.specs.declared.place.Place.TheVariants.{Byte}
+use Rattle.finvar_text.specs.declared.fault.ScriptFault.{ScriptFault}
+use Rattle.finvar_text.specs.declared.fault.ScriptFault.TheVariants as scripts
+use Rattle.invariant_space.specs.declared.fault.SpaceFault.{SpaceFault}
+use Rattle.invariant_space.specs.declared.fault.SpaceFault.TheVariants as spaces
+use Rattle.matrix_group.specs.declared.fault.GroupFault.{GroupFault}
+use Rattle.matrix_group.specs.declared.fault.GroupFault.TheVariants as groups
+use Rattle.invring_app.specs.declared.fault.Fault.{Fault}
+use Rattle.invring_app.specs.declared.fault.Fault.TheVariants.{Syntax, Input, Bound, Memory}
+use Rattle.invring_app.specs.declared.status.BoundFault.TheVariants.{TermBound, GroupBound}
+
+abbrev pub fault_of_script : ScriptFault → Fault
+fault_of_script (scripts.Syntax n) = Syntax (Byte n)
+fault_of_script (scripts.Input fault) = Input fault
+fault_of_script scripts.Memory = Memory
+
+abbrev pub fault_of_space : SpaceFault → Fault
+fault_of_space (spaces.TermBound degree count) = Bound (TermBound degree count)
+fault_of_space spaces.Memory = Memory
+
+abbrev pub fault_of_group : GroupFault → Fault
+fault_of_group (groups.GroupBound counted) = Bound (GroupBound counted)
+fault_of_group groups.Memory = Memory

@@ -1,0 +1,72 @@
+use crate::status::BoundFault;
+use alg_core::{InputFault, Memory, Place};
+use finvar_text::ScriptFault;
+use invariant_space::SpaceFault;
+use matrix_group::GroupFault;
+
+/// Why bytes have no answer.
+#[derive(Debug, Drop)]
+pub(crate) enum Fault {
+    Syntax(Place),
+    Input(InputFault),
+    Bound(BoundFault),
+    Memory,
+}
+
+impl From<Memory> for Fault {
+    ghost use Rattle.std.specs.Prelude.{◌≡◌};
+    ghost use Rattle.invring_app.specs.declared.fault.Fault.TheVariants as faults;
+
+    ghost from_gives = { λ _ e. e ≡ faults.Memory };
+
+    fn from(_: Memory) -> Fault {
+        Fault::Memory
+    }
+}
+
+impl From<ScriptFault> for Fault {
+    ghost use Rattle.invring_app.specs.Faults.{fault_of_script};
+    ghost use Rattle.std.specs.Prelude.{◌≡◌};
+
+    ghost from_gives = { λ e f. f ≡ fault_of_script e };
+
+    fn from(fault: ScriptFault) -> Fault {
+        match fault {
+            ScriptFault::Syntax { place } => Fault::Syntax(Place::Byte(place)),
+            ScriptFault::Input(fault) => Fault::Input(fault),
+            ScriptFault::Memory => Fault::Memory,
+        }
+    }
+}
+
+impl From<SpaceFault> for Fault {
+    ghost use Rattle.invring_app.specs.Faults.{fault_of_space};
+    ghost use Rattle.std.specs.Prelude.{◌≡◌};
+
+    ghost from_gives = { λ e f. f ≡ fault_of_space e };
+
+    fn from(fault: SpaceFault) -> Fault {
+        match fault {
+            SpaceFault::TermBound { degree, count } => {
+                Fault::Bound(BoundFault::TermBound { degree, count })
+            }
+            SpaceFault::Memory => Fault::Memory,
+        }
+    }
+}
+
+impl From<GroupFault> for Fault {
+    ghost use Rattle.invring_app.specs.Faults.{fault_of_group};
+    ghost use Rattle.std.specs.Prelude.{◌≡◌};
+
+    ghost from_gives = { λ e f. f ≡ fault_of_group e };
+
+    fn from(fault: GroupFault) -> Fault {
+        match fault {
+            GroupFault::GroupBound { counted } => {
+                Fault::Bound(BoundFault::GroupBound { counted })
+            }
+            GroupFault::Memory => Fault::Memory,
+        }
+    }
+}

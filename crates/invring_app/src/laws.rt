@@ -1,0 +1,24 @@
+ghost use Rattle.std.specs.Prelude.{◌≡◌, ℕ, List};
+ghost use Rattle.invring_app.specs.declared.reading.Kind.{Kind};
+ghost use Rattle.invring_app.specs.declared.words.Request.{Request};
+ghost use Rattle.invring_app.specs.Answers.{Ends};
+ghost use Rattle.invring_app.specs.Endings.{AreAlike, Ending};
+ghost use Rattle.invring_app.specs.Inputs.{Input, IsRefused, ReadsAs, Refusal};
+ghost use Rattle.invring_app.specs.Words.{IsRequest};
+
+/// Words are at most one command.
+pub fn words_ask_once()
+    ensures one { (words : List (List ℕ)) (r s : Request) → IsRequest words r → IsRequest words s → r ≡ s }
+{}
+
+/// Bytes are read as one input or refused in one way, and not both.
+pub fn bytes_are_read_once()
+    ensures input { (kind : Kind) (bytes : List ℕ) (i j : Input) → ReadsAs kind bytes i → ReadsAs kind bytes j → i ≡ j }
+    ensures refusal { (kind : Kind) (bytes : List ℕ) (x y : Refusal) → IsRefused kind bytes x → IsRefused kind bytes y → x ≡ y }
+    ensures apart { (kind : Kind) (bytes : List ℕ) (i : Input) (x : Refusal) → ReadsAs kind bytes i → ¬ IsRefused kind bytes x }
+{}
+
+/// A request ends in one way at what was read: it has one text, one bound, and not both.
+pub fn requests_end_once()
+    ensures one { (r : Request) (i : Input) (e f : Ending) → Ends r i e → Ends r i f → AreAlike e f }
+{}
