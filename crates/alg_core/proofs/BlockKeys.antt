@@ -1,5 +1,5 @@
 -- Keys in the variables of a space by the block order and by the elimination order.
-use Rattle.std.proofs.Common.{◌≡◌, ℕ, zero, suc, ◌+◌, ◌<◌, ◌≤◌, true, false, cond, nat_lt, List, [], ◌∷◌, length, take, drop, replicate, reverse, sym, ap, ap₂, ◌∙◌, refl, arith}
+use Rattle.std.proofs.Common.{◌≡◌, ℕ, zero, suc, ◌+◌, ◌<◌, ◌≤◌, cond, nat_lt, List, [], ◌∷◌, length, take, drop, replicate, reverse, sym, ap, ap₂, ◌∙◌, refl, arith}
 use Rattle.std.specs.declared.cmp.Ordering.{Ordering}
 use Rattle.std.specs.declared.cmp.Ordering.TheVariants.{Less, Equal, Greater}
 use Rattle.std.specs.Ordering.{nat_cmp, ordering_then}
@@ -15,6 +15,7 @@ use Rattle.alg_core.specs.EliminationOrder.{elimination_compare, elimination_ord
 use Rattle.alg_core.specs.SpaceOrder.{key_compare, key_compare_places, place_of, beyond_of}
 use Rattle.alg_core.specs.SpaceGrading.{weight, weight_ext}
 use Rattle.alg_core.specs.MonomialParts.{variable_part}
+use Rattle.alg_core.proofs.NumberTests.{is_below, not_below}
 use Rattle.alg_core.proofs.PlaceDegrees.{weight_weighted_degree}
 
 -- keys in n variables are compared by their places
@@ -26,18 +27,12 @@ compare_in_variables n o s t h g =
     ap₂ (key_compare n o) (sym p) (sym q) ∙ key_compare_places n o (s.0, exponents n s.1.0) (t.0, exponents n t.1.0) (length_exponents n s.1.0) (length_exponents n t.1.0)
 
 module _ (first : ℕ) (ws : List ℕ) where
-  test_no : (q : ℕ) → first ≤ q → nat_lt q first ≡ false
-  test_no q h = grind (arith, nat_tests)
-
-  test_yes : (q : ℕ) → q < first → nat_lt q first ≡ true
-  test_yes q h = grind (arith, nat_tests)
-
   -- the keys below one of the second block are of the second block
   pub second_block : (s t : Key) → length s.1.0 ≤ length ws → length t.1.0 ≤ length ws → first ≤ t.0 → key_compare (length ws) (elimination_order first ws) s t ≡ Less → first ≤ s.0
   second_block s t h g second less = go (dec_le first s.0)
     where
       greater : s.0 < first → elimination_compare first ws (s.0, exponents (length ws) s.1.0) (t.0, exponents (length ws) t.1.0) ≡ Greater
-      greater p = ap₂ (λ a b. ordering_then (nat_cmp (cond a 1 0) (cond b 1 0)) (dp_compare ws (s.0, exponents (length ws) s.1.0) (t.0, exponents (length ws) t.1.0))) (test_yes s.0 p) (test_no t.0 second)
+      greater p = ap₂ (λ a b. ordering_then (nat_cmp (cond a 1 0) (cond b 1 0)) (dp_compare ws (s.0, exponents (length ws) s.1.0) (t.0, exponents (length ws) t.1.0))) (is_below s.0 first p) (not_below t.0 first second)
 
       go : Dec (first ≤ s.0) → first ≤ s.0
       go (yes p) = p
@@ -54,10 +49,10 @@ module _ (first : ℕ) (ws : List ℕ) where
 
   -- inside a block the order is dp, then the earlier position
   pub inside_second : (s t : Key) → first ≤ s.0 → first ≤ t.0 → key_compare (length ws) (elimination_order first ws) s t ≡ key_compare (length ws) (dp_order ws) s t
-  inside_second s t h g = in_one_block s t (test_no s.0 h ∙ sym (test_no t.0 g))
+  inside_second s t h g = in_one_block s t (not_below s.0 first h ∙ sym (not_below t.0 first g))
 
   pub inside_first : (s t : Key) → s.0 < first → t.0 < first → key_compare (length ws) (elimination_order first ws) s t ≡ key_compare (length ws) (dp_order ws) s t
-  inside_first s t h g = in_one_block s t (test_yes s.0 h ∙ sym (test_yes t.0 g))
+  inside_first s t h g = in_one_block s t (is_below s.0 first h ∙ sym (is_below t.0 first g))
 
 take_exponents : (n r m : ℕ) (a : List ℕ) → m ≡ n + r → take n (exponents m a) ≡ exponents n a
 unfolding exponents

@@ -4,7 +4,7 @@ use Rattle.std.specs.Prelude.{filter}
 use Rattle.std.specs.declared.cmp.Ordering.{Ordering}
 use Rattle.std.specs.declared.cmp.Ordering.TheVariants.{Less, Equal, Greater}
 use Rattle.std.proofs.lemmas.Bool.Decides.{nat_tests}
-use Rattle.alg_core.specs.Monomials.{mono, exponent_mono, exponents, mono_exponents}
+use Rattle.alg_core.specs.Monomials.{mono, exponent_mono, exponents, exponents_all, mono_exponents}
 use Rattle.alg_core.specs.Keys.{Place, Key, key}
 use Rattle.alg_core.specs.KeyOrders.{OrderOn, less_irreflexive, less_asymmetric, greater_less}
 use Rattle.alg_core.specs.Lists.{In, map_in, pairs, in_pairs, numbers_below, in_numbers_below}
@@ -142,6 +142,15 @@ module _ (ws ss : List ℕ) (d : ℕ) where
   in_places_up_to positive q a low high h = in_filter (λ p. nat_le (place_degree ws ss p) d) _ _
       (in_pairs (λ q a. (q, a)) q (exponents (length ws) a) (numbers_below (length ss)) (exponent_lists (length ws) d) (in_numbers_below q (length ss) low) (in_exponent_lists_degree ws (length ws) d a positive h))
       (passes _ _ high)
+
+  pub places_up_to_exact : AllPositive ws → (p : Place) → In p (places_up_to ws ss d) ↔ ((length p.1 ≡ length ws) × (p.0 < length ss) × (place_degree ws ss p ≤ d))
+  places_up_to_exact positive p = (
+    from_places_up_to p,
+    λ h.
+        let same = exponents_all (length ws) p.1 h.0 in
+        let high : weight ws 0 (exponents (length ws) p.1) + height ss p.0 ≤ d = subst (λ l. weight ws 0 l + height ss p.0 ≤ d) (sym same) h.2 in
+        subst (λ l. In (p.0, l) (places_up_to ws ss d)) same (in_places_up_to positive p.0 p.1 h.1 high (let b = h.2 in omega arith)),
+  )
 
 module _ {E : Type 0} (S : SpaceOver E) where
   -- the degree of a place is that of its key

@@ -13,3 +13,5 @@ pub mod OnesLaws
 pub mod KeyMultiples
 pub mod VectorEntries
 pub mod SpanLaws
+pub mod NumberTests
+pub mod PolynomialSpaces

@@ -3,7 +3,7 @@
 --   Apart l            no member of l is equal to a later one
 --   dropped l h        the list l without the member at the place h
 use Rattle.std.proofs.Common.{◌≡◌, ◌⊎◌, ℕ, zero, suc, ◌<◌, ◌≤◌, Bool, true, false, cond, List, [], ◌∷◌, ◌++◌, length, map, sym, ap, ◌∙◌, refl, subst, arith, inl, inr}
-use Rattle.std.specs.Prelude.{filter}
+use Rattle.std.specs.Prelude.{filter, Contains, slice_index_or}
 use Rattle.alg_core.specs.Lists.{In, pairs, numbers_below}
 
 pub in_cases : {A : Type 0} (x : A) (l l' : List A) → In x (l ++ l') → In x l ⊎ In x l'
@@ -132,3 +132,17 @@ apart_map f (x ∷ l) h a = (λ z i. go z (from_map f z l i), apart_map f l (λ 
   where
     go : (z : _) → (y : _) × In y l × (f y ≡ z) → ¬ (z ≡ f x)
     go z r = λ e. a.0 r.0 r.1 (h r.0 x (inr r.1) (inl refl) (r.2 ∙ e))
+
+-- members by their places
+pub in_contains : {A : Type 0} (x : A) (l : List A) → In x l → Contains l x
+in_contains x [] h = absurd h
+in_contains x (y ∷ l) (inl e) = (0, omega arith, e)
+in_contains x (y ∷ l) (inr h) = let r = in_contains x l h in (suc r.0, (let w = r.1 in omega arith), r.2)
+
+pub contains_in : {A : Type 0} (x : A) (l : List A) → Contains l x → In x l
+contains_in x l c = go l c.0 c.1 c.2
+  where
+    go : (l : List _) (i : ℕ) → i < length l → slice_index_or l i x ≡ x → In x l
+    go [] i h e = absurd (omega arith)
+    go (y ∷ l) zero h e = inl e
+    go (y ∷ l) (suc i) h e = inr (go l i (omega arith) e)

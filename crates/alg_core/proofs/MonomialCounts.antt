@@ -156,7 +156,7 @@ weight_ones zero i (x ∷ a) e = absurd (omega arith)
 weight_ones (suc n) i [] e = absurd (omega arith)
 weight_ones (suc n) i (x ∷ a) e = let h = weight_ones n (suc i) a (omega arith) in omega arith
 
-positive_ones : (n : ℕ) → AllPositive (replicate n 1)
+pub positive_ones : (n : ℕ) → AllPositive (replicate n 1)
 positive_ones zero = tt
 positive_ones (suc n) = (omega arith, positive_ones n)
 

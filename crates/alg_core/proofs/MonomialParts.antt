@@ -4,7 +4,7 @@ use native.Mathlib.Decide.{dec_le}
 use Rattle.alg_core.specs.Monomials.{exponent, Mon, mon_ext, mono, exponent_mono, monomials, exponent_mul, exponent_one, exponents, length_exponents, beyond}
 use Rattle.alg_core.specs.SpaceGrading.{weight, weight_ext, weight_mul}
 use Rattle.alg_core.specs.MonomialParts.{variable_part, mark_part, as_marks}
-use Rattle.alg_core.proofs.MonomialLists.{length_mono}
+use Rattle.alg_core.proofs.MonomialLists.{exponent_past, length_mono}
 
 -- exponents of the parts of a list
 inside_exponents : (n : ℕ) (a : List ℕ) (i : ℕ) → i < n → exponent (exponents n a) i ≡ exponent a i
@@ -104,16 +104,11 @@ variable_part_as_marks n m = parts_ext n _ _
     (λ i. variable_part_past n (as_marks n m) (n + i) (omega arith) ∙ sym (exponent_one (n + i)))
 
 -- a monomial in the variables is its part there, and has no marks
-past_end : (a : List ℕ) (i : ℕ) → length a ≤ i → exponent a i ≡ 0
-past_end [] i h = refl
-past_end (x ∷ a) zero h = absurd (omega arith)
-past_end (x ∷ a) (suc i) h = past_end a i (omega arith)
-
 pub variable_part_same : (n : ℕ) (m : Mon) → length m.0 ≤ n → variable_part n m ≡ m
-variable_part_same n m h = parts_ext n _ m (exponent_variable_part n m) (λ i. variable_part_past n m (n + i) (omega arith) ∙ sym (past_end m.0 (n + i) (omega arith)))
+variable_part_same n m h = parts_ext n _ m (exponent_variable_part n m) (λ i. variable_part_past n m (n + i) (omega arith) ∙ sym (exponent_past m.0 (n + i) (omega arith)))
 
 pub mark_part_none : (n : ℕ) (m : Mon) → length m.0 ≤ n → mark_part n m ≡ monomials.one
-mark_part_none n m h = mon_ext _ _ (λ i. exponent_mark_part n m i ∙ past_end m.0 (n + i) (omega arith) ∙ sym (exponent_one i))
+mark_part_none n m h = mon_ext _ _ (λ i. exponent_mark_part n m i ∙ exponent_past m.0 (n + i) (omega arith) ∙ sym (exponent_one i))
 
 pub length_variable_part : (n : ℕ) (m : Mon) → length (variable_part n m).0 ≤ n
 unfolding variable_part

@@ -1,20 +1,21 @@
 -- A vector over a space has one list of entries that fits.
-use Rattle.std.proofs.Common.{◌≡◌, List, [], ◌∷◌, length, map, inl, inr, refl, sym, ap, ap₂, ◌∙◌}
+use Rattle.std.proofs.Common.{◌≡◌, List, [], ◌∷◌, length, map, inl, inr, refl, sym, ap, ap₂, subst, ◌∙◌, arith}
 use Rattle.alg_core.specs.RingLaws as rings
 use Rattle.alg_core.specs.FormalSums.{FormalSum, regular, coefficient}
 use Rattle.alg_core.specs.FreeModules.{class, coef_class}
-use Rattle.alg_core.specs.Fields.{Scalar, scalars, is_field, scalar_ext, scalar_value, scalar_of_value}
+use Rattle.alg_core.specs.Fields.{Scalar, scalars, is_field, scalar, scalar_ext, scalar_value, scalar_of_value}
 use Rattle.alg_core.specs.Monomials.{exponents, length_exponents, exponents_mono, mono_exponents}
-use Rattle.alg_core.specs.Keys.{Key, key, key_same}
+use Rattle.alg_core.specs.Keys.{Place, Key, key, key_same}
 use Rattle.alg_core.specs.KeyOrders.{OrderOn}
 use Rattle.alg_core.specs.Lists.{In}
 use Rattle.alg_core.specs.CanonicalLists.{AllBelow, IsCanonical, indicator_no, coefficient_head, coefficient_below, terms, terms_canonical, class_terms}
 use Rattle.alg_core.specs.Vectors.{Entry, Vect, formal_sum, vec, coef_at}
-use Rattle.alg_core.specs.Spaces.{SpaceOver, IsTerm, IsAbove, Fits}
+use Rattle.alg_core.specs.Spaces.{SpaceOver, IsPlace, IsTerm, IsAbove, Fits}
 use Rattle.alg_core.specs.SpaceOrder.{key_order}
 use Rattle.alg_core.specs.KeyLists.{InSpace}
 use Rattle.alg_core.specs.VectorEntries.{IsOver, entry_of, entries_of}
 use Rattle.alg_core.proofs.FittingLists.{less_turned, terms_vec}
+use Rattle.alg_core.proofs.MonomialLists.{length_mono}
 use Rattle.alg_core.proofs.BlockKeys.{compare_in_variables}
 
 module _ {E : Type 0} (S : SpaceOver E) where
@@ -90,3 +91,25 @@ module _ {E : Type 0} (S : SpaceOver E) where
   pub entries_of_vec : (es : List (Entry E)) → Fits S es → entries_of S (vec S.field es) ≡ es
   unfolding entries_of
   entries_of_vec es h = ap (map (entry_of S)) (terms_vec S es h) ∙ entries_back es h
+
+  in_space : (p : Place) → IsPlace S p → InSpace S (key p)
+  unfolding key
+  in_space p h = record {
+    fits = ap (S.order.fits p.0) (sym h.wide) ∙ h.fits;
+    variables = let l = length_mono p.1 in let w = h.wide in omega arith;
+    position = h.low;
+  }
+
+  keys_in_space : (es : List (Entry E)) → Fits S es → (t : Key) → ¬ (coefficient (scalars S.field) key_same (formal_sum S.field es) t ≡ (scalars S.field).zero) → InSpace S t
+  unfolding regular
+  keys_in_space [] h t n = absurd (n refl)
+  keys_in_space (e ∷ es) h t n = go (key_same (key e.0) t) (keys_in_space es h.2 t)
+    where
+      go : Dec (key e.0 ≡ t) → (¬ (coefficient (scalars S.field) key_same (formal_sum S.field es) t ≡ (scalars S.field).zero) → InSpace S t) → InSpace S t
+      go (yes p) rest = subst (InSpace S) p (in_space e.0 h.0.place)
+      go (no p) rest = rest (λ z. n (ap₂ (scalars S.field).◌+◌ (ap ((scalars S.field).◌*◌ (scalar S.field e.1)) (indicator_no (scalars S.field) (key_same (key e.0) t) p) ∙ rings.mul_zero (scalars S.field) _) z ∙ (scalars S.field).add_zero _))
+
+  -- the vector of a list that fits is over the space
+  pub vec_over : (es : List (Entry E)) → Fits S es → IsOver S (vec S.field es)
+  unfolding vec coef_at
+  vec_over es h t n = keys_in_space es h t (λ z. n (coef_class (scalars S.field) key_same (formal_sum S.field es) t ∙ z))

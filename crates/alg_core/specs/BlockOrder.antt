@@ -12,7 +12,7 @@ use Rattle.std.proofs.lemmas.Cmp.{on_total, then_total}
 use Rattle.alg_core.specs.ExponentLists.{product}
 use Rattle.alg_core.specs.Keys.{Place}
 use Rattle.alg_core.specs.PlaceOrders.{PlaceOrder, times_place}
-use Rattle.alg_core.specs.DpOrder.{all_positive, dp_compare, dp_total, dp_tied, dp_kept, dp_alike, dp_no_smaller, length_from_test}
+use Rattle.alg_core.specs.DpOrder.{all_positive, dp_compare, dp_total, dp_tied, then_tied, dp_kept, dp_alike, dp_no_smaller, length_from_test}
 
 -- the first n exponents by dp, the others by weighted dp, then the earlier position
 abbrev pub block_compare : ℕ → List ℕ → Place → Place → Ordering
@@ -20,11 +20,6 @@ block_compare n ws = then_cmp (on (λ a. (0, take n a.1)) (dp_compare (replicate
 
 pub block_total : (n : ℕ) (ws : List ℕ) → IsTotalOrder (block_compare n ws)
 block_total n ws = then_total (on_total (λ a. (0, take n a.1)) (dp_total (replicate n 1))) (on_total (λ a. (a.0, drop n a.1)) (dp_total ws))
-
-then_tied : (o p : Ordering) → ordering_then o p ≡ Equal → (o ≡ Equal) × (p ≡ Equal)
-then_tied Less p h = cc
-then_tied Equal p h = (refl, h)
-then_tied Greater p h = cc
 
 split : (n : ℕ) (a b : List ℕ) → take n a ≡ take n b → drop n a ≡ drop n b → a ≡ b
 split zero a b p q = q

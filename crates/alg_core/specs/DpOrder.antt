@@ -82,23 +82,24 @@ lex_kept m a b p q = ap₂ (slice_cmp (flip_args nat_cmp)) (reverse_product m a 
 pub dp_kept : (ws m : List ℕ) (a b : Place) → length m ≡ length a.1 → length m ≡ length b.1 → dp_compare ws (times_place m a) (times_place m b) ≡ dp_compare ws a b
 dp_kept ws m a b p q = ap₂ ordering_then (ap₂ nat_cmp (weighted_degree_product ws m a.1 p) (weighted_degree_product ws m b.1 q) ∙ nat_cmp_shift (weighted_degree ws m) (weighted_degree ws a.1) (weighted_degree ws b.1)) (ap₂ ordering_then (lex_kept m a.1 b.1 p q) refl)
 
-then_equal : (o p : Ordering) → ordering_then o p ≡ Equal → (o ≡ Equal) × (p ≡ Equal)
-then_equal Less p h = cc
-then_equal Equal p h = (refl, h)
-then_equal Greater p h = cc
+-- two comparisons, one after the other, tie exactly where both do
+pub then_tied : (o p : Ordering) → ordering_then o p ≡ Equal → (o ≡ Equal) × (p ≡ Equal)
+then_tied Less p h = cc
+then_tied Equal p h = (refl, h)
+then_tied Greater p h = cc
 
 exact_flip : (xs ys : List ℕ) → slice_cmp (flip_args nat_cmp) xs ys ≡ Equal → xs ≡ ys
 exact_flip [] [] h = refl
 exact_flip [] (y ∷ ys) h = cc
 exact_flip (x ∷ xs) [] h = cc
 exact_flip (x ∷ xs) (y ∷ ys) h =
-    let both = then_equal (nat_cmp y x) (slice_cmp (flip_args nat_cmp) xs ys) h in
+    let both = then_tied (nat_cmp y x) (slice_cmp (flip_args nat_cmp) xs ys) h in
     ap (λ z. z ∷ xs) (sym (exact_unsigned y x both.0)) ∙ ap (λ l. y ∷ l) (exact_flip xs ys both.1)
 
 pub dp_tied : (ws : List ℕ) (a b : Place) → dp_compare ws a b ≡ Equal → a ≡ b
 dp_tied ws a b h =
-    let tied = then_equal (nat_cmp (weighted_degree ws a.1) (weighted_degree ws b.1)) (ordering_then (reverse_lexicographic a.1 b.1) (nat_cmp b.0 a.0)) h in
-    let places = then_equal (reverse_lexicographic a.1 b.1) (nat_cmp b.0 a.0) tied.1 in
+    let tied = then_tied (nat_cmp (weighted_degree ws a.1) (weighted_degree ws b.1)) (ordering_then (reverse_lexicographic a.1 b.1) (nat_cmp b.0 a.0)) h in
+    let places = then_tied (reverse_lexicographic a.1 b.1) (nat_cmp b.0 a.0) tied.1 in
     let exps : a.1 ≡ b.1 = sym (reverse-reverse a.1) ∙ ap reverse (exact_flip (reverse a.1) (reverse b.1) places.0) ∙ reverse-reverse b.1 in
     ap (λ (p : ℕ). (p, a.1)) (sym (exact_unsigned b.0 a.0 places.1)) ∙ ap (λ (l : List ℕ). (b.0, l)) exps
 

@@ -218,7 +218,7 @@ exponents_ext (suc n) [] (y ∷ b) e = ap₂ ◌∷◌ (e 0) (exponents_ext n []
 exponents_ext (suc n) (x ∷ a) [] e = ap₂ ◌∷◌ (e 0) (exponents_ext n a [] (λ i. e (suc i)))
 exponents_ext (suc n) (x ∷ a) (y ∷ b) e = ap₂ ◌∷◌ (e 0) (exponents_ext n a b (λ i. e (suc i)))
 
-exponents_all : (n : ℕ) (a : List ℕ) → length a ≡ n → exponents n a ≡ a
+pub exponents_all : (n : ℕ) (a : List ℕ) → length a ≡ n → exponents n a ≡ a
 unfolding exponents
 exponents_all zero [] e = refl
 exponents_all zero (x ∷ a) e = absurd (omega arith)

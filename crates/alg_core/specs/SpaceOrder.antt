@@ -6,7 +6,7 @@
 --   key_order S           the order of the space S on all keys
 use Rattle.std.proofs.Common.{◌≡◌, ℕ, zero, suc, ◌+◌, List, [], ◌∷◌, length, sym, ap, ap₂, ◌∙◌, refl, arith}
 use Rattle.std.specs.declared.cmp.Ordering.{Ordering}
-use Rattle.std.specs.declared.cmp.Ordering.TheVariants.{Less, Equal, Greater}
+use Rattle.std.specs.declared.cmp.Ordering.TheVariants.{Equal}
 use Rattle.std.specs.Ordering.{nat_cmp, on, then_cmp, ordering_then}
 use Rattle.std.specs.Cmp.{IsTotalOrder}
 use Rattle.std.specs.Cmp.Lexicographic.{slice_cmp}
@@ -17,6 +17,7 @@ use Rattle.alg_core.specs.ExponentLists.{product}
 use Rattle.alg_core.specs.Monomials.{Mon, monomials, mono, exponent, trimmed, trimmed_cons, trimmed_ext, added, exponent_added, exponent_mul, exponent_mono, mon_is, exponents, length_exponents, exponents_ext, exponents_mono, beyond}
 use Rattle.alg_core.specs.Keys.{Place, Key, key, times_key}
 use Rattle.alg_core.specs.PlaceOrders.{PlaceOrder}
+use Rattle.alg_core.specs.DpOrder.{then_tied}
 use Rattle.alg_core.specs.KeyOrders.{OrderOn}
 use Rattle.alg_core.specs.Spaces.{SpaceOver}
 
@@ -134,11 +135,6 @@ module _ (n : ℕ) (o : PlaceOrder) where
   pub key_total : IsTotalOrder key_compare
   unfolding key_compare
   key_total = then_total (on_total beyond_of (lists_total nat_cmp_total)) (on_total place_of o.total)
-
-  then_tied : (r s : Ordering) → ordering_then r s ≡ Equal → (r ≡ Equal) × (s ≡ Equal)
-  then_tied Less s h = cc
-  then_tied Equal s h = (refl, h)
-  then_tied Greater s h = cc
 
   exact_lists : (xs ys : List ℕ) → slice_cmp nat_cmp xs ys ≡ Equal → xs ≡ ys
   exact_lists [] [] h = refl

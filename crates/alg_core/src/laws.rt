@@ -5,18 +5,19 @@ ghost use Rattle.std.specs.Int.{◌∣◌};
 ghost use Rattle.alg_core.specs.Fields.{Scalar, scalars, is_field, ones};
 ghost use Rattle.alg_core.specs.FormalSums.{FormalSum};
 ghost use Rattle.alg_core.specs.FreeModules.{single, class};
-ghost use Rattle.alg_core.specs.Keys.{Key, key_same, KeyDivides};
+ghost use Rattle.alg_core.specs.Keys.{Place, Key, key_same, KeyDivides};
 ghost use Rattle.alg_core.specs.KeyOrders.{OrderOn};
 ghost use Rattle.alg_core.specs.CanonicalLists.{IsCanonical, IsLead, terms};
 ghost use Rattle.alg_core.specs.Vectors.{Entry, Vect, vectors, formal_sum, vec, plus, zero_vector, coef_at};
 ghost use Rattle.alg_core.specs.Monomials.{Mon, monomials, Divides};
 ghost use Rattle.alg_core.specs.CommonMultiples.{mon_lcm, common_multiple};
-ghost use Rattle.alg_core.specs.Spaces.{over, Fits};
+ghost use Rattle.alg_core.specs.Spaces.{over, IsPlace, Fits};
+ghost use Rattle.alg_core.specs.PolynomialSpaces.{plain_space, marked_space};
 ghost use Rattle.alg_core.specs.SpaceOrder.{key_order, key_compare};
 ghost use Rattle.alg_core.specs.VectorEntries.{IsOver, entries_of};
 ghost use Rattle.alg_core.specs.SpaceGrading.{AllPositive, weight, degree, rank};
 ghost use Rattle.alg_core.specs.Lists.{In};
-ghost use Rattle.alg_core.specs.KeyLists.{Falls, InSpace, keys_up_to, keys_of_degree};
+ghost use Rattle.alg_core.specs.KeyLists.{Falls, place_degree, places_up_to, InSpace, keys_up_to, keys_of_degree};
 ghost use Rattle.alg_core.specs.Binomials.{monomials_of_degree};
 ghost use Rattle.alg_core.specs.DpOrder.{dp_order};
 ghost use Rattle.alg_core.specs.BlockOrder.{block_order};
@@ -141,6 +142,8 @@ pub fn key_lists<F: Field, O: TermOrder>(_space: &Space<F, O>)
         → (d : ℕ) (t : Key) → In t (keys_up_to S d) ↔ (InSpace S t × (degree S t ≤ d)) }
     ensures of_degree { let S = over F.field O.order _space.now in AllPositive S.weights
         → (d : ℕ) (t : Key) → In t (keys_of_degree S d) ↔ (InSpace S t × (degree S t ≡ d)) }
+    ensures places { (ws ss : List ℕ) (d : ℕ) → AllPositive ws → (p : Place) → In p (places_up_to ws ss d)
+        ↔ ((length p.1 ≡ length ws) × (p.0 < length ss) × (place_degree ws ss p ≤ d)) }
     ensures up_to_falls { let S = over F.field O.order _space.now in (d : ℕ) → Falls (key_order S) (keys_up_to S d) }
     ensures of_degree_falls { let S = over F.field O.order _space.now in (d : ℕ) → Falls (key_order S) (keys_of_degree S d) }
     ensures after { let o = key_order (over F.field O.order _space.now) in (s t : Key) (front back : List Key)
@@ -151,9 +154,20 @@ pub fn key_lists<F: Field, O: TermOrder>(_space: &Space<F, O>)
         S.weights ≡ replicate n 1 → S.shifts ≡ 0 ∷ [] → S.order.fits 0 n ≡ true → 0 < n → (d : ℕ) → length (keys_of_degree S d) ≡ monomials_of_degree n d }
 {}
 
-/// A vector whose keys are those of places of a space is that of one list of terms that fits the space.
+/// The vectors whose keys are those of places of a space are those of the lists of terms that fit the
+/// space, each of one list.
 pub fn vector_lists<F: Field, O: TermOrder>(_space: &Space<F, O>)
+    ensures over { let S = over F.field O.order _space.now in (es : List (Entry F.Elem)) → Fits S es → IsOver S (vec S.field es) }
     ensures fits { let S = over F.field O.order _space.now in (v : Vect S.field) → IsOver S v → Fits S (entries_of S v) }
     ensures is { let S = over F.field O.order _space.now in (v : Vect S.field) → IsOver S v → vec S.field (entries_of S v) ≡ v }
     ensures only { let S = over F.field O.order _space.now in (es : List (Entry F.Elem)) → Fits S es → entries_of S (vec S.field es) ≡ es }
+{}
+
+/// The spaces of polynomials in variables of degree 1, and in such variables and marks of positive degrees,
+/// have constants and positive orders and gradings.
+pub fn polynomial_spaces<F: Field>(_field: &F)
+    ensures plain { let k = F.field _field.now in (n : ℕ) → let S = plain_space k n in
+        IsPlace S (0, replicate n 0) × (S.order.is_positive ≡ true) × AllPositive S.weights }
+    ensures marked { let k = F.field _field.now in (n : ℕ) (ds : List ℕ) → AllPositive ds → let S = marked_space k n ds in
+        IsPlace S (0, replicate (n + length ds) 0) × (S.order.is_positive ≡ true) × AllPositive S.weights }
 {}

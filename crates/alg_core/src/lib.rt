@@ -30,8 +30,8 @@ pub use field::Field;
 pub use input_fault::InputFault;
 pub use laws::{
     block_orders, common_key_multiples, common_multiples, elimination_orders, finite_degrees,
-    fitting_lists, key_lists, linear_functions, monomial_parts, sums_of_ones, vector_lists,
-    vector_sums, vector_terms, vectors_are_maps,
+    fitting_lists, key_lists, linear_functions, monomial_parts, polynomial_spaces, sums_of_ones,
+    vector_lists, vector_sums, vector_terms, vectors_are_maps,
 };
 pub use limits::Limits;
 pub use memory::Memory;

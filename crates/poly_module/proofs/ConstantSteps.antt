@@ -1,5 +1,6 @@
 -- The places of polynomials, and the monomials of 1 and of a variable.
 use Rattle.std.proofs.Common.{◌≡◌, ◌<◌, ℕ, zero, suc, List, [], ◌∷◌, length, replicate, slice_set, refl, sym, ap, subst, ◌∙◌, arith}
+use Rattle.alg_core.proofs.MonomialLists.{exponent_zeros}
 use Rattle.alg_core.specs.Monomials.{Mon, monomials, mono, mono_ext, exponent, exponent_mono, exponent_one, mon_ext}
 use Rattle.alg_core.specs.Keys.{key}
 use Rattle.alg_core.specs.Vectors.{scale}
@@ -19,11 +20,6 @@ use Rattle.poly_module.proofs.SpaceVectorLaws.{vector_given, poly_given}
 pub length_zeros : (n : ℕ) → length {A = ℕ} (replicate n 0) ≡ n
 length_zeros zero = refl
 length_zeros (suc n) = ap suc (length_zeros n)
-
-exponent_zeros : (n i : ℕ) → exponent (replicate n 0) i ≡ 0
-exponent_zeros zero i = refl
-exponent_zeros (suc n) zero = refl
-exponent_zeros (suc n) (suc i) = exponent_zeros n i
 
 -- the place of the monomial 1
 mono_zeros : (n : ℕ) → ◌≡◌ {A = ℕ × Mon} (0, mono (replicate n 0)) (0, monomials.one)

@@ -3,18 +3,9 @@ use Rattle.std.proofs.Common.{◌≡◌, ◌⊎◌, inl, inr, suc, ◌+◌, ◌�
 use Rattle.std.proofs.lemmas.List.{length-append}
 use Rattle.alg_core.specs.Rings.{Ring, Module, IsField}
 use Rattle.alg_core.specs.ModuleLaws as modules
-use Rattle.alg_core.specs.Lists.{In}
+use Rattle.alg_core.specs.Lists.{In, in_left, in_right}
 use Rattle.alg_core.specs.Spans.{combine, InSpan, Independent}
 use Rattle.alg_core.proofs.SpanLaws.{span_add, span_act, span_minus, span_member, span_within, span_parts}
-
-in_left : {A : Type 0} (x : A) (l l' : List A) → In x l → In x (l ++ l')
-in_left x [] l' h = absurd h
-in_left x (y ∷ l) l' (inl e) = inl e
-in_left x (y ∷ l) l' (inr h) = inr (in_left x l l' h)
-
-in_right : {A : Type 0} (x : A) (l l' : List A) → In x l' → In x (l ++ l')
-in_right x [] l' h = h
-in_right x (y ∷ l) l' h = inr (in_right x l l' h)
 
 in_either : {A : Type 0} (x : A) (l l' : List A) → In x (l ++ l') → In x l ⊎ In x l'
 in_either x [] l' h = inr h

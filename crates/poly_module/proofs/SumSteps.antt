@@ -1,7 +1,8 @@
 -- Sums of the values of terms, by halves; and the constant 1.
-use Rattle.std.proofs.Common.{◌≡◌, ℕ, zero, suc, List, [], ◌∷◌, ◌++◌, length, get_or, take, drop, replicate, refl, sym, ap, ap₂, ◌∙◌, arith, take-append-drop}
+use Rattle.std.proofs.Common.{◌≡◌, ℕ, List, [], ◌∷◌, ◌++◌, length, get_or, take, drop, replicate, refl, sym, ap, ap₂, ◌∙◌, arith, take-append-drop}
 use Rattle.std.proofs.lemmas.List.{map-append}
-use Rattle.alg_core.specs.Monomials.{Mon, monomials, mono, exponent, exponent_mono, exponent_one, mon_ext}
+use Rattle.alg_core.proofs.MonomialLists.{exponent_zeros}
+use Rattle.alg_core.specs.Monomials.{Mon, monomials, mono, exponent_mono, exponent_one, mon_ext}
 use Rattle.alg_core.specs.Keys.{key}
 use Rattle.alg_core.specs.Vectors.{Vect, vec, plus, scale}
 use Rattle.alg_core.specs.declared.term.Term.{Term}
@@ -16,11 +17,6 @@ use Rattle.poly_module.proofs.PowerSteps.{scale_one}
 key_mono : (p : ℕ × List ℕ) → (key p).1 ≡ mono p.1
 unfolding key
 key_mono p = refl
-
-exponent_zeros : (n i : ℕ) → exponent (replicate n 0) i ≡ 0
-exponent_zeros zero i = refl
-exponent_zeros (suc n) zero = refl
-exponent_zeros (suc n) (suc i) = exponent_zeros n i
 
 key_zeros : (n : ℕ) → key (0, replicate n 0) ≡ (0, monomials.one)
 unfolding key

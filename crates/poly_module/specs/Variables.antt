@@ -10,10 +10,11 @@ use native.Mathlib.Omega.{arith}
 use Rattle.alg_core.specs.Rings.{Ring, Linear}
 use Rattle.alg_core.specs.Fields.{FieldOn}
 use Rattle.alg_core.specs.ModuleLaws as modules
-use Rattle.alg_core.specs.Monomials.{Mon, monomials, mono, exponent, trimmed, trimmed_cons, trimmed_ext, exponent_mul, exponent_one, mono_mon}
+use Rattle.alg_core.specs.Monomials.{Mon, monomials, mono, mono_mon}
 use Rattle.poly_module.specs.MonomialVariables.{after_zeros, variable, mono_after_zeros, mono_variable_power, mono_zeros, mono_zeros_nothing}
 use Rattle.alg_core.specs.Keys.{keys}
 use Rattle.alg_core.specs.Lists.{In}
+pub use Rattle.alg_core.proofs.MonomialLists.{exponent_past, length_mon, length_mul, length_one}
 use Rattle.alg_core.specs.Vectors.{Vect, vectors}
 use Rattle.poly_module.specs.Polynomials.{polynomials, polynomial_algebra, single_vector, product, vector_ring}
 use Rattle.poly_module.specs.Products.{one_vector_single, product_single, ring_product, ring_one}
@@ -59,40 +60,6 @@ module _ {S : Type 0} (Y : Ring S) where
       powers : (e : ℕ) → P (power Y x e)
       powers zero = one
       powers (suc e) = mul _ _ (h x (inl refl)) (powers e)
-
--- a monomial has the first n variables alone exactly where its other exponents are 0
-pub exponent_past : (a : List ℕ) (i : ℕ) → length a ≤ i → exponent a i ≡ 0
-exponent_past [] i h = refl
-exponent_past (x ∷ a) zero h = absurd (omega arith)
-exponent_past (x ∷ a) (suc i) h = exponent_past a i (omega arith)
-
-length_trimmed_cons : (x : ℕ) (l : List ℕ) → length (trimmed_cons x l) ≤ suc (length l)
-unfolding trimmed_cons
-length_trimmed_cons zero [] = omega arith
-length_trimmed_cons zero (y ∷ l) = omega arith
-length_trimmed_cons (suc x) l = omega arith
-
-length_trimmed : (n : ℕ) (a : List ℕ) → ((i : ℕ) → n ≤ i → exponent a i ≡ 0) → length (trimmed a) ≤ n
-unfolding trimmed
-length_trimmed n [] e = omega arith
-length_trimmed zero (x ∷ a) e = let none : length (trimmed (x ∷ a)) ≡ 0 = ap length (trimmed_ext (x ∷ a) [] (λ i. e i (omega arith))) in omega arith
-length_trimmed (suc n) (x ∷ a) e =
-    let rest = length_trimmed n a (λ i h. e (suc i) (omega arith)) in
-    let first = length_trimmed_cons x (trimmed a) in
-    omega arith
-
-pub length_mon : (n : ℕ) (m : Mon) → ((i : ℕ) → n ≤ i → exponent m.0 i ≡ 0) → length m.0 ≤ n
-length_mon n m e = subst (λ l. length l ≤ n) m.1 (length_trimmed n m.0 e)
-
-pub length_mul : (n : ℕ) (a b : Mon) → length a.0 ≤ n → length b.0 ≤ n → length (monomials.◌·◌ a b).0 ≤ n
-length_mul n a b h g = length_mon n (monomials.◌·◌ a b) (λ i l.
-    let p = exponent_mul a b i in
-    let q = exponent_past a.0 i (omega arith) in
-    let r = exponent_past b.0 i (omega arith) in
-    omega arith)
-
-pub length_one : (n : ℕ) → length monomials.one.0 ≤ n
-length_one n = length_mon n monomials.one (λ i l. exponent_one i)
 
 module _ {E : Type 0} (k : FieldOn E) where
   -- n variables, from the i-th on

@@ -1,13 +1,13 @@
 ghost use Rattle.std.specs.Prelude.{◌≡◌, ◌↔◌, ◌≤◌, ◌-◌, ◌^◌, ℕ, IsTrue, IsNone, IfSome, All, Any};
 ghost use Rattle.alg_core.specs.Keys.{key};
-ghost use Rattle.alg_core.specs.Spaces.{over, place, entries, IsPlace};
+ghost use Rattle.alg_core.specs.Spaces.{over, entries};
 ghost use Rattle.alg_core.specs.SpaceGrading.{degree};
 ghost use Rattle.alg_core.specs.Vectors.{zero_vector};
 ghost use Rattle.poly_module.specs.Degrees.{IsDegree, IsHomogeneous};
 ghost use Rattle.poly_module.specs.SpaceVectors.{vector_of, IsVector, IsUpTo};
 
 use crate::vector::Vector;
-use alg_core::{Field, ModTerm, Monomial, Space, TermOrder, weighted_degree};
+use alg_core::{Field, Monomial, Space, TermOrder, term_degree};
 
 /// The greatest degree of a term. None exactly at zero.
 pub fn degree<F: Field, O: TermOrder, M: Monomial>(
@@ -54,16 +54,4 @@ pub fn is_homogeneous<F: Field, O: TermOrder, M: Monomial>(
         }
     }
     true
-}
-
-/// The degree of a term.
-pub(crate) fn term_degree<F: Field, O: TermOrder, M: Monomial>(
-    space: &Space<F, O>,
-    at: &ModTerm<M>,
-) -> u128
-    requires place { IsPlace (over F.field O.order space.now) (place M.exps at.now) }
-    ensures is { let S = over F.field O.order space.now in result ≡ degree S (key (place M.exps at.now)) }
-{
-    let monomial = weighted_degree(space.grading.weights.as_slice(), 0, &at.mono);
-    monomial + space.grading.shifts[at.pos as usize] as u128
 }
