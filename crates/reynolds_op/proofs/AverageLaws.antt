@@ -14,8 +14,9 @@ use Rattle.matrix_group.specs.Actions.{act, IsSquare, Invariant}
 use Rattle.matrix_group.specs.Groups.{size, cells_of, entry, times, IsGroup, AreElements, AreApart}
 use Rattle.matrix_group.proofs.ActionLaws.{act_plus, act_zero, act_scale, act_product, act_polynomial, act_in_variables, act_form}
 use Rattle.matrix_group.proofs.GroupLaws.{elements_generators, matrices_cells}
-use Rattle.reynolds_op.specs.Averages.{ones, sum_of, sum_over, average, reynolds, Averaging, IsAveraging, IsAverage}
-use Rattle.reynolds_op.proofs.OnesLaws.{has_ones}
+use Rattle.alg_core.specs.Fields.{ones}
+use Rattle.reynolds_op.specs.Averages.{sum_of, sum_over, average, reynolds, Averaging, IsAveraging, IsAverage}
+use Rattle.alg_core.proofs.OnesLaws.{has_ones}
 use Rattle.reynolds_op.proofs.Sums.{sum_same, sum_plus, sum_through, sum_constant, sum_members, sum_map}
 use Rattle.matrix_group.proofs.GroupActions.{act_times, fixed_by_cells, fixed_by_matrices, fixed_by_product, turned_apart, turned_in, in_turned}
 

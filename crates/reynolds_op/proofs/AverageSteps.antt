@@ -2,19 +2,15 @@
 use Rattle.std.proofs.Common.{◌≡◌, ℕ, ◌+◌, ◌<◌, ◌≤◌, List, [], ◌∷◌, ◌++◌, length, take, get_or, All, refl, sym, ap, ap₂, ◌∙◌, subst}
 use Rattle.std.proofs.lemmas.List.{take_more, map-append}
 use Rattle.alg_core.specs.Fields.{FieldOn}
-use Rattle.alg_core.specs.Keys.{key}
-use Rattle.alg_core.specs.Vectors.{Vect, Entry, vec, plus, zero_vector, scale}
-use Rattle.alg_core.specs.Spaces.{SpaceOver, Fits}
-use Rattle.alg_core.proofs.VectorLaws.{plus_zero, vec_nothing}
-use Rattle.poly_module.proofs.ExponentBounds.{fits_keys}
-use Rattle.poly_module.specs.Parts.{IsPolynomial}
+use Rattle.alg_core.specs.Vectors.{Vect, plus}
+use Rattle.alg_core.specs.Spaces.{SpaceOver}
+use Rattle.alg_core.proofs.VectorLaws.{plus_zero}
 use Rattle.lin_algebra.specs.declared.matrix.Matrix.{Matrix}
 use Rattle.matrix_group.specs.Actions.{IsSquare, ActsOn, act_by}
 use Rattle.matrix_group.specs.Groups.{size, cells_of}
 use Rattle.reynolds_op.specs.Averages.{Averaging, sum_over, ActTogether, AveragesOn}
 use Rattle.reynolds_op.proofs.Sums.{sum_append}
 use Rattle.matrix_group.proofs.GroupActions.{act_cells}
-use Rattle.reynolds_op.proofs.AverageLaws.{average_polynomial}
 
 module _ {E : Type 0} (k : FieldOn E) where
   -- one image more

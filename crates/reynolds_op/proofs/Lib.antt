@@ -1,5 +1,4 @@
 pub mod Members
-pub mod OnesLaws
 pub mod MatrixGroups
 pub mod Sums
 pub mod AverageLaws

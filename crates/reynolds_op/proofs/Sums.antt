@@ -7,9 +7,10 @@ use Rattle.alg_core.specs.Vectors.{Vect, vectors, plus, zero_vector, scale}
 use Rattle.alg_core.proofs.VectorLaws.{plus_left_comm, plus_swap, zero_plus, plus_zero, plus_assoc, scale_zero}
 use Rattle.matrix_group.specs.Groups.{AreApart}
 use Rattle.matrix_group.proofs.Found.{Contains_nil, Contains_head, Contains_tail, Contains_cases, Contains_split, Contains_without}
-use Rattle.reynolds_op.specs.Averages.{ones, sum_of}
+use Rattle.alg_core.specs.Fields.{ones}
+use Rattle.reynolds_op.specs.Averages.{sum_of}
 use Rattle.reynolds_op.proofs.Members.{Contains_with, AreApart_without}
-use Rattle.reynolds_op.proofs.OnesLaws.{has_ones}
+use Rattle.alg_core.proofs.OnesLaws.{has_ones}
 
 module _ {E : Type 0} (k : FieldOn E) {A : Type 0} where
   pub sum_same : (f g : A → Vect k) (xs : List A) → ((x : A) → Contains xs x → f x ≡ g x) → sum_of k f xs ≡ sum_of k g xs

@@ -1,7 +1,6 @@
 -- The Reynolds operator of a finite group of matrices: the average of the images of a polynomial under the elements.
 -- A matrix of n rows and n columns is here the list of its cells, row after row.
 --
---   ones k N               the sum of N ones
 --   sum_of k f xs          the sum of the values of f at the members of xs
 --   sum_over k n gs u      the sum of the images of u under the matrices with the cells gs
 --   average k n c gs u     c times that sum
@@ -15,7 +14,7 @@
 --                          first variables
 --   AveragesOn S R         the elements of such a group act so, and R averages over it
 use Rattle.std.specs.Prelude.{◌≡◌, ◌≤◌, ℕ, List, [], ◌∷◌, All, length}
-use Rattle.alg_core.specs.Fields.{FieldOn, Has, sum_of_ones}
+use Rattle.alg_core.specs.Fields.{FieldOn, Has, ones}
 use Rattle.alg_core.specs.Vectors.{Vect, plus, zero_vector, scale}
 use Rattle.alg_core.specs.Spaces.{SpaceOver}
 use Rattle.lin_algebra.specs.declared.matrix.Matrix.{Matrix}
@@ -28,9 +27,6 @@ pub record Averaging (E : Type 0) : Type 0 where
   pub factor : E
 
 module _ {E : Type 0} (k : FieldOn E) where
-  abbrev pub ones : ℕ → E
-  ones = sum_of_ones k.add k.zero k.one
-
   abbrev pub sum_of : {A : Type 0} → (A → Vect k) → List A → Vect k
   sum_of f [] = zero_vector k
   sum_of f (x ∷ xs) = plus k (f x) (sum_of f xs)
@@ -54,7 +50,7 @@ module _ {E : Type 0} (k : FieldOn E) where
   pub record IsAveraging (n : ℕ) (R : Averaging E) : Type 0 where
     pub elements : IsMatrixGroup n R.elements
     pub has : Has k R.factor
-    pub inverse : k.mul R.factor (ones (length R.elements)) ≡ k.one
+    pub inverse : k.mul R.factor (ones k (length R.elements)) ≡ k.one
 
   -- the elements are the finite products of the matrices
   pub record IsAverage (gens : List (Matrix E)) (f h : Vect k) : Type 0 where

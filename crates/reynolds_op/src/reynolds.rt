@@ -5,7 +5,8 @@ ghost use Rattle.alg_core.specs.Spaces.{over};
 ghost use Rattle.poly_module.specs.SpaceVectors.{vector_of, IsVectorOf, IsPoly, IsPolyOf, HasPolynomials};
 ghost use Rattle.poly_module.specs.Sizes.{IsLow};
 ghost use Rattle.matrix_group.specs.Groups.{size, cells_of};
-ghost use Rattle.reynolds_op.specs.Averages.{ones, sum_over, reynolds, IsMatrixGroup, IsAveraging, ActTogether, AveragesOn};
+ghost use Rattle.alg_core.specs.Fields.{ones};
+ghost use Rattle.reynolds_op.specs.Averages.{sum_over, reynolds, IsMatrixGroup, IsAveraging, ActTogether, AveragesOn};
 
 use alg_core::{Field, Memory, Space, TermOrder};
 use lin_algebra::Matrix;
