@@ -86,12 +86,14 @@ pub fn monomial_parts()
     ensures whole { (n : ℕ) (m : Mon) → monomials.◌·◌ (variable_part n m) (as_marks n (mark_part n m)) ≡ m }
     ensures variables { (n : ℕ) (m : Mon) → length m.0 ≤ n → (variable_part n m ≡ m) × (mark_part n m ≡ monomials.one) }
     ensures marks { (n : ℕ) (m : Mon) → (variable_part n (as_marks n m) ≡ monomials.one) × (mark_part n (as_marks n m) ≡ m) }
-    ensures variables_product { (n : ℕ) (a b : Mon) → variable_part n (monomials.◌·◌ a b) ≡ monomials.◌·◌ (variable_part n a) (variable_part n b) }
+    ensures variables_product { (n : ℕ) (a b : Mon)
+        → variable_part n (monomials.◌·◌ a b) ≡ monomials.◌·◌ (variable_part n a) (variable_part n b) }
     ensures marks_product { (n : ℕ) (a b : Mon) → mark_part n (monomials.◌·◌ a b) ≡ monomials.◌·◌ (mark_part n a) (mark_part n b) }
     ensures product { (n : ℕ) (a b : Mon) → as_marks n (monomials.◌·◌ a b) ≡ monomials.◌·◌ (as_marks n a) (as_marks n b) }
     ensures degree { (ws ds : List ℕ) (m : Mon) → let n = length ws in length m.0 ≤ n + length ds
         → weight (ws ++ ds) 0 m.0 ≡ weight ws 0 (variable_part n m).0 + weight ds 0 (mark_part n m).0 }
-    ensures marks_degree { (ws ds : List ℕ) (m : Mon) → length m.0 ≤ length ds → weight (ws ++ ds) 0 (as_marks (length ws) m).0 ≡ weight ds 0 m.0 }
+    ensures marks_degree { (ws ds : List ℕ) (m : Mon) → length m.0 ≤ length ds
+        → weight (ws ++ ds) 0 (as_marks (length ws) m).0 ≡ weight ds 0 m.0 }
 {}
 
 /// On keys in n variables and the marks the block order puts a key with a smaller degree in the variables
@@ -151,7 +153,8 @@ pub fn key_lists<F: Field, O: TermOrder>(_space: &Space<F, O>)
     ensures fewer { (f g : Key → Bool) (l : List Key) (t : Key) → ((s : Key) → f s ≡ true → g s ≡ true)
         → In t l → f t ≡ false → g t ≡ true → length (filter f l) < length (filter g l) }
     ensures count { let S = over F.field O.order _space.now in let n = length S.weights in
-        S.weights ≡ replicate n 1 → S.shifts ≡ 0 ∷ [] → S.order.fits 0 n ≡ true → 0 < n → (d : ℕ) → length (keys_of_degree S d) ≡ monomials_of_degree n d }
+        S.weights ≡ replicate n 1 → S.shifts ≡ 0 ∷ [] → S.order.fits 0 n ≡ true → 0 < n
+        → (d : ℕ) → length (keys_of_degree S d) ≡ monomials_of_degree n d }
 {}
 
 /// The vectors whose keys are those of places of a space are those of the lists of terms that fit the

@@ -61,7 +61,8 @@ impl<F: Field> Space<F, BlockOrder> {
         ensures field { IfOk result (λ s. s.field ≡ field) }
         ensures variables { IfOk result (λ s. s.order.vars ≡ variables) }
         ensures marks { IfOk result (λ s. s.order.weights.items ≡ degrees.now) }
-        ensures is { IfOk result (λ s. over F.field (λ o. block_order o.vars o.weights.items) s ≡ marked_space (F.field field) variables degrees.now) }
+        ensures is { IfOk result (λ s. over F.field (λ o. block_order o.vars o.weights.items) s
+            ≡ marked_space (F.field field) variables degrees.now) }
     {
         let mut marks = Vec::new(alloc);
         marks.extend_from_slice(degrees)?;

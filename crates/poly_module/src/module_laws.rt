@@ -40,12 +40,16 @@ pub fn second_blocks<F: Field>(_space: &Space<F, ElimOrder>)
 /// comes of a polynomial has its value, where the marks have the images of the variables, and its degrees.
 pub fn mark_translations<F: Field>(_field: &F)
     ensures linear { let k = F.field _field.now in (n : ℕ) → Linear (vectors k) (vectors k) (in_marks k n) }
-    ensures single { let k = F.field _field.now in (n : ℕ) (t : Key) → in_marks k n (single_vector k t) ≡ single_vector k (key_as_marks n t) }
-    ensures product { let k = F.field _field.now in (n : ℕ) (u v : Vect k) → in_marks k n (product k u v) ≡ product k (in_marks k n u) (in_marks k n v) }
-    ensures value { let k = F.field _field.now in (n : ℕ) (θ : List (Vect k)) (u : Vect k) → mark_value k n θ (in_marks k n u) ≡ substitute k θ u }
+    ensures single { let k = F.field _field.now in (n : ℕ) (t : Key)
+        → in_marks k n (single_vector k t) ≡ single_vector k (key_as_marks n t) }
+    ensures product { let k = F.field _field.now in (n : ℕ) (u v : Vect k)
+        → in_marks k n (product k u v) ≡ product k (in_marks k n u) (in_marks k n v) }
+    ensures value { let k = F.field _field.now in (n : ℕ) (θ : List (Vect k)) (u : Vect k)
+        → mark_value k n θ (in_marks k n u) ≡ substitute k θ u }
     ensures degree { let k = F.field _field.now in (ws ds : List ℕ) (d : ℕ) (u : Vect k) → InVariables k (length ds) u
         → IsGraded k (key_weight ds) d u → IsGraded k (key_weight (ws ++ ds)) d (in_marks k (length ws) u) }
-    ensures polynomial { let k = F.field _field.now in (n r : ℕ) (u : Vect k) → IsPolynomial k u → InVariables k r u → IsMixed k n r (in_marks k n u) }
+    ensures polynomial { let k = F.field _field.now in (n r : ℕ) (u : Vect k)
+        → IsPolynomial k u → InVariables k r u → IsMixed k n r (in_marks k n u) }
     ensures back { let k = F.field _field.now in (n : ℕ) (u : Vect k) → from_marks k n (in_marks k n u) ≡ u }
     ensures parts { let k = F.field _field.now in (n i : ℕ) (m : Mon)
         → single_vector k (i, m) ≡ product k (single_vector k (0, variable_part n m)) (in_marks k n (single_vector k (i, mark_part n m))) }
