@@ -26,7 +26,7 @@ exponent_zeros (suc n) zero = refl
 exponent_zeros (suc n) (suc i) = exponent_zeros n i
 
 -- the place of the monomial 1
-mono_zeros : (n : ℕ) → ◌≡◌ {A = ℕ × Mon} (0, mono (replicate n 0)) (0, monomials.one)
+pub mono_zeros : (n : ℕ) → ◌≡◌ {A = ℕ × Mon} (0, mono (replicate n 0)) (0, monomials.one)
 mono_zeros n = ap (λ (m : Mon). (0, m)) (mon_ext (mono (replicate n 0)) monomials.one (λ i. exponent_mono (replicate n 0) i ∙ exponent_zeros n i ∙ sym (exponent_one i)))
 
 -- the exponents of a variable

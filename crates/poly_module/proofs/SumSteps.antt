@@ -17,15 +17,6 @@ key_mono : (p : ℕ × List ℕ) → (key p).1 ≡ mono p.1
 unfolding key
 key_mono p = refl
 
-exponent_zeros : (n i : ℕ) → exponent (replicate n 0) i ≡ 0
-exponent_zeros zero i = refl
-exponent_zeros (suc n) zero = refl
-exponent_zeros (suc n) (suc i) = exponent_zeros n i
-
-key_zeros : (n : ℕ) → key (0, replicate n 0) ≡ (0, monomials.one)
-unfolding key
-key_zeros n = ap (λ (m : Mon). (0, m)) (mon_ext (mono (replicate n 0)) monomials.one (λ i. exponent_mono (replicate n 0) i ∙ exponent_zeros n i ∙ sym (exponent_one i)))
-
 module _ {E M : Type 0} (S : SpaceOver E) (exps : M → List ℕ) where
   abbrev Terms : Type 0
   Terms = List (Term E M)
@@ -56,8 +47,3 @@ module _ {E M : Type 0} (S : SpaceOver E) (exps : M → List ℕ) where
   value_halves xs n fs front back sum left right p q l r s =
       s ∙ ap₂ (plus S.field) l r ∙ sym (substitute_plus S.field xs _ _)
       ∙ ap (substitute S.field xs) (sym (vec_append S.field (entries exps front) (entries exps back)) ∙ ap (vec S.field) (sym (map-append (entry exps) front back) ∙ ap (entries exps) (ap₂ ◌++◌ p q ∙ take-append-drop n fs)))
-
-  -- the constant 1
-  pub constant_vector : (n : ℕ) (v : Terms) (f : Term E M) → f.coef ≡ S.field.one → f.at.pos ≡ 0 → exps f.at.mono ≡ replicate n 0 → vec S.field (entries exps v) ≡ vec S.field (entries exps (f ∷ [])) → vec S.field (entries exps v) ≡ one_vector S.field
-  constant_vector n v f unit first zeros is =
-      is ∙ vec_scaled S.field (entry exps f) ∙ scale_one S exps f.coef unit _ ∙ ap (single_vector S.field) (ap₂ (λ (i : ℕ) (a : List ℕ). key (i, a)) first zeros ∙ key_zeros n) ∙ sym (one_vector_single S.field)
