@@ -1,17 +1,15 @@
--- Sums of the values of terms, by halves; and the constant 1.
-use Rattle.std.proofs.Common.{◌≡◌, ℕ, zero, suc, List, [], ◌∷◌, ◌++◌, length, get_or, take, drop, replicate, refl, sym, ap, ap₂, ◌∙◌, arith, take-append-drop}
+-- Sums of the values of terms, by halves.
+use Rattle.std.proofs.Common.{◌≡◌, ℕ, List, [], ◌∷◌, ◌++◌, length, get_or, take, drop, refl, sym, ap, ap₂, ◌∙◌, arith, take-append-drop}
 use Rattle.std.proofs.lemmas.List.{map-append}
-use Rattle.alg_core.specs.Monomials.{Mon, monomials, mono, exponent, exponent_mono, exponent_one, mon_ext}
+use Rattle.alg_core.specs.Monomials.{Mon, mono}
 use Rattle.alg_core.specs.Keys.{key}
 use Rattle.alg_core.specs.Vectors.{Vect, vec, plus, scale}
 use Rattle.alg_core.specs.declared.term.Term.{Term}
 use Rattle.alg_core.specs.Spaces.{SpaceOver, entry, entries}
 use Rattle.alg_core.proofs.VectorLaws.{vec_append, vec_nothing}
-use Rattle.poly_module.specs.Polynomials.{single_vector, one_vector, vector_ring}
-use Rattle.poly_module.specs.Products.{one_vector_single}
+use Rattle.poly_module.specs.Polynomials.{vector_ring}
 use Rattle.poly_module.specs.Substitutions.{monomial_value, monomial_value_mono, substitute, substitute_plus, substitute_scale, substitute_single, substitute_zero}
 use Rattle.poly_module.proofs.ExponentBounds.{vec_scaled}
-use Rattle.poly_module.proofs.PowerSteps.{scale_one}
 
 key_mono : (p : ℕ × List ℕ) → (key p).1 ≡ mono p.1
 unfolding key
