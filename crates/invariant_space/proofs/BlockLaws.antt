@@ -2,7 +2,6 @@
 use Rattle.std.proofs.Common.{◌≡◌, ◌⊎◌, ℕ, suc, ◌+◌, ◌*◌, ◌/◌, ◌<◌, ◌≤◌, inl, inr, List, [], ◌∷◌, ◌++◌, length, map, get_or, Vec, Global, refl, sym, ap, ap₂, subst, ◌∙◌, arith}
 use Rattle.std.specs.Prelude.{All, Option, Some, SomeIff}
 use Rattle.std.specs.List.{AllByRecursion as Each}
-use native.Mathlib.Decide.{ℕ_discrete}
 use Rattle.std.proofs.lemmas.Bool.{cases_lt}
 use Rattle.std.proofs.lemmas.Nat.{div-mul-add}
 use Rattle.std.proofs.Math.Nat.{mul-le-mul}
@@ -23,7 +22,7 @@ use Rattle.lin_algebra.specs.declared.matrix.Matrix.{Matrix}
 use Rattle.lin_algebra.specs.Matrices.{cut}
 use Rattle.lin_algebra.specs.Vectors.{vector, unit, IsRow}
 use Rattle.lin_algebra.proofs.CutLaws.{cut_more, length_cut}
-use Rattle.lin_algebra.proofs.DotLaws.{unit_at, unit_other}
+use Rattle.lin_algebra.proofs.DotLaws.{unit_comm}
 use Rattle.matrix_group.specs.Actions.{act_by}
 use Rattle.invariant_space.specs.InvariantSpaces.{IsOfDegree}
 use Rattle.invariant_space.specs.declared.columns.Column.{Column}
@@ -144,13 +143,6 @@ module _ {E : Type 0} (S : SpaceOver E) where
       let quotients : i ≡ j = sym (div-mul-add i n s h) ∙ ap (λ m. m / n) e ∙ div-mul-add j n t g in
       (quotients, let f : i * n ≡ j * n = ap (λ m. m * n) quotients in omega arith)
 
-  unit_symmetric : (s l : ℕ) → unit (scalars S.field) l s ≡ unit (scalars S.field) s l
-  unit_symmetric s l = go (ℕ_discrete l s)
-    where
-      go : Dec (l ≡ s) → unit (scalars S.field) l s ≡ unit (scalars S.field) s l
-      go (yes e) = unit_at (scalars S.field) l s e ∙ sym (unit_at (scalars S.field) s l (sym e))
-      go (no n) = unit_other (scalars S.field) l s n ∙ sym (unit_other (scalars S.field) s l (λ e. n (sym e)))
-
   -- the keys of two columns are told apart by their places
   unit_coefficient : (cs : List (Column E)) → Falls (key_order S) (keys_of cs) → (s l : ℕ) (b c : Column E) → s < length cs → l < length cs → b ≡ get_or cs s b → c ≡ get_or cs l c
       → coef_at S.field (single_vector S.field (key_of c)) (key_of b) ≡ unit (scalars S.field) s l
@@ -160,7 +152,7 @@ module _ {E : Type 0} (S : SpaceOver E) where
       let l_in : l < length (keys_of cs) = omega arith in
       let at_s : get_or (keys_of cs) s (key_of b) ≡ key_of b = get_or-map key_of cs s b (key_of b) h ∙ ap key_of (sym e) in
       let at_l : get_or (keys_of cs) l (key_of c) ≡ key_of c = get_or-map key_of cs l c (key_of c) g ∙ ap key_of (sym r) in
-      sym (coordinates_at S.field (keys_of cs) (single_vector S.field (key_of c)) s (key_of b) s_in at_s) ∙ coordinates_single S.field (key_order S) (keys_of cs) falls l (key_of c) l_in at_l s ∙ unit_symmetric s l
+      sym (coordinates_at S.field (keys_of cs) (single_vector S.field (key_of c)) s (key_of b) s_in at_s) ∙ coordinates_single S.field (key_order S) (keys_of cs) falls l (key_of c) l_in at_l s ∙ unit_comm (scalars S.field) l s
 
   -- one equation more
   pub system_more : (cs : List (Column E)) (gens : List (Matrix E)) (i s q : ℕ) (m : Matrix E) (rows : List (List E)) (row cells new : List E) → Falls (key_order S) (keys_of cs) → i < length gens → m ≡ get_or gens i m → s < length cs → IsBlock S cs m rows

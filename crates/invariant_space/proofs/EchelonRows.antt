@@ -1,11 +1,9 @@
 -- Rows in reduced echelon form are a reduced echelon list of polynomials.
-use Rattle.std.proofs.Common.{◌≡◌, ◌↔◌, ℕ, suc, ◌<◌, ◌≤◌, inl, inr, List, [], ◌∷◌, length, map, slice_index_or, sym, ap, ap₂, ◌∙◌, refl, subst, arith}
+use Rattle.std.proofs.Common.{◌≡◌, ◌↔◌, ℕ, suc, ◌<◌, ◌≤◌, inl, inr, List, [], ◌∷◌, length, map, slice_index_or, sym, ap, ◌∙◌, refl, subst, arith}
 use Rattle.std.proofs.lemmas.List.{get_or_default}
 use Rattle.std.specs.List.{AllByRecursion as Each}
 use Rattle.std.specs.declared.cmp.Ordering.TheVariants.{Less}
 use native.Mathlib.Decide.{dec_le}
-use Rattle.alg_core.specs.Rings.{Ring, Module, Linear}
-use Rattle.alg_core.specs.ModuleLaws as modules
 use Rattle.alg_core.specs.Fields.{FieldOn, Scalar, scalars, is_field}
 use Rattle.alg_core.specs.Monomials.{monomials}
 use Rattle.alg_core.specs.Keys.{Key}

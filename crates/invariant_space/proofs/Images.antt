@@ -1,11 +1,11 @@
 -- Images of monomials under matrices: of 1, and of a variable times a monomial.
-use Rattle.std.proofs.Common.{◌≡◌, ℕ, zero, suc, ◌+◌, ◌<◌, ◌≤◌, ◌⊎◌, inl, inr, List, [], ◌∷◌, ◌++◌, length, replicate, get_or, refl, sym, ap, ap₂, subst, ◌∙◌, arith}
+use Rattle.std.proofs.Common.{◌≡◌, ℕ, ◌+◌, ◌<◌, ◌≤◌, ◌⊎◌, inl, inr, List, [], ◌∷◌, ◌++◌, length, replicate, get_or, refl, sym, ap, ap₂, subst, ◌∙◌, arith}
 use Rattle.std.specs.Prelude.{All}
 use Rattle.std.proofs.lemmas.Bool.{cases_lt}
 use Rattle.std.proofs.lemmas.List.{get_or_default, get_or_append_left, get_or_push, length-append}
 use Rattle.alg_core.specs.ExponentLists.{product as list_product, Within}
 use Rattle.alg_core.specs.Keys.{key}
-use Rattle.alg_core.specs.Monomials.{Mon, monomials, mono, exponent, exponent_mono, exponent_one, mon_ext}
+use Rattle.alg_core.specs.Monomials.{monomials}
 use Rattle.alg_core.specs.Vectors.{Vect, vec}
 use Rattle.alg_core.specs.declared.term.Term.{Term}
 use Rattle.alg_core.specs.Spaces.{SpaceOver, entries, Fits, IsPlace}
@@ -15,7 +15,8 @@ use Rattle.poly_module.specs.Polynomials.{single_vector, one_vector, product}
 use Rattle.poly_module.specs.Products.{product_single, one_vector_single}
 use Rattle.poly_module.specs.MonomialVariables.{variable}
 use Rattle.poly_module.specs.Substitutions.{variable_vector}
-use Rattle.poly_module.specs.SpaceVectors.{IsPolyOf}
+use Rattle.poly_module.specs.SpaceVectors.{IsPolyOf, HasPolynomials}
+use Rattle.poly_module.proofs.ConstantSteps.{length_zeros, mono_zeros, polynomial_place}
 use Rattle.poly_module.proofs.ExponentBounds.{Bounded, bounded_products, fits_keys}
 use Rattle.lin_algebra.specs.declared.matrix.Matrix.{Matrix}
 use Rattle.lin_algebra.specs.Matrices.{entries as cells_of}
@@ -28,22 +29,13 @@ use Rattle.invariant_space.specs.declared.columns.Column.{Column}
 use Rattle.invariant_space.specs.Levels.{unit_exponents}
 use Rattle.invariant_space.proofs.MonomialDegrees.{of_exponents, of_degree, of_degree_times, bounded_of_degree, total_constant, total_times, variable_degree, key_times}
 
-exponent_zeros : (n i : ℕ) → exponent (replicate n 0) i ≡ 0
-exponent_zeros zero i = refl
-exponent_zeros (suc n) zero = refl
-exponent_zeros (suc n) (suc i) = exponent_zeros n i
-
 pub key_constant : (n : ℕ) → key (0, replicate n 0) ≡ (0, monomials.one)
 unfolding key
-key_constant n = ap (λ (m : Mon). (0, m)) (mon_ext (mono (replicate n 0)) monomials.one (λ i. exponent_mono (replicate n 0) i ∙ exponent_zeros n i ∙ sym (exponent_one i)))
+key_constant = mono_zeros
 
 module _ {E : Type 0} (S : SpaceOver E) where
   abbrev Terms : Type 0
   Terms = List (Term E (List ℕ))
-
-  -- positions as the order has them depend on how many exponents there are
-  pub place_wide : IsPlace S (0, replicate (length S.weights) 0) → (a : List ℕ) → length a ≡ length S.weights → IsPlace S (0, a)
-  place_wide h a e = record { fits = ap (S.order.fits 0) (e ∙ sym h.wide) ∙ h.fits; wide = e; low = h.low }
 
   -- the terms of a form are at position 0
   pub image_made : (d : ℕ) (v : Vect S.field) (p : Terms) → Fits S (entries (λ m. m) p) → vec S.field (entries (λ m. m) p) ≡ v → Supp S.field (IsOfDegree (length S.weights) d) v → IsImage S d v p
@@ -87,10 +79,6 @@ module _ {E : Type 0} (S : SpaceOver E) where
       let n = length S.weights in
       subst (Supp S.field (IsOfDegree n 0)) (sym (one_vector_single S.field ∙ ap (single_vector S.field) (sym (key_constant n))))
       (supp_single S.field (IsOfDegree n 0) (key (0, replicate n 0)) (subst (λ d. IsOfDegree n d (key (0, replicate n 0))) (total_constant n) (of_exponents n (replicate n 0) (length_zeros n))))
-    where
-      length_zeros : (n : ℕ) → length {A = ℕ} (replicate n 0) ≡ n
-      length_zeros zero = refl
-      length_zeros (suc n) = ap suc (length_zeros n)
 
   -- the terms of 1
   pub one_image : (p : Terms) → IsPolyOf S (λ m. m) (one_vector S.field) p → IsImage S 0 (one_vector S.field) p
@@ -166,14 +154,14 @@ module _ {E : Type 0} (S : SpaceOver E) where
       subst (IsImage S (total c.at.mono) (act_by S.field x (single_vector S.field (key (0, c.at.mono))))) (sym (there ∙ get_or_default c.images.items i p [] low))
       (subst (λ q. IsImage S (total c.at.mono) (act_by S.field x (single_vector S.field (key (q, c.at.mono)))) (get_or c.images.items i [])) h.place.position (h.image i x inside (sym read)))
 
-  pub column_made : (gens : List (Matrix E)) (c : Column E) → IsPlace S (0, replicate (length S.weights) 0) → c.at.pos ≡ 0 → length c.at.mono ≡ length S.weights → Imaged gens c.at.mono (length gens) c.images.items → IsColumn S gens c
+  pub column_made : (gens : List (Matrix E)) (c : Column E) → HasPolynomials S → c.at.pos ≡ 0 → length c.at.mono ≡ length S.weights → Imaged gens c.at.mono (length gens) c.images.items → IsColumn S gens c
   column_made gens c constants zero_there wide images = record {
-    place = record { position = zero_there; place = subst (λ q. IsPlace S (q, c.at.mono)) (sym zero_there) (place_wide constants c.at.mono wide) };
+    place = record { position = zero_there; place = subst (λ q. IsPlace S (q, c.at.mono)) (sym zero_there) (polynomial_place S constants c.at.mono wide) };
     count = images.count;
     image = λ i m h e. subst (λ q. IsImage S (total c.at.mono) (act_by S.field m (single_vector S.field (key (q, c.at.mono)))) (get_or c.images.items i [])) (sym zero_there) (images.image i m h e);
   }
 
-  pub imaged_whole : (gens : List (Matrix E)) (a : List ℕ) (q : ℕ) (c : Column E) → IsPlace S (0, replicate (length S.weights) 0) → c.at.pos ≡ 0 → c.at.mono ≡ a → length a ≡ length S.weights
+  pub imaged_whole : (gens : List (Matrix E)) (a : List ℕ) (q : ℕ) (c : Column E) → HasPolynomials S → c.at.pos ≡ 0 → c.at.mono ≡ a → length a ≡ length S.weights
       → length gens ≤ q → q ≤ length gens → Imaged gens a q c.images.items → IsColumn S gens c
   imaged_whole gens a q c constants first is wide past within images =
       let all : q ≡ length gens = omega arith in

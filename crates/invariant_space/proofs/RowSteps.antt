@@ -6,7 +6,7 @@ use Rattle.alg_core.specs.Fields.{FieldOn, Has, Scalar, scalars, scalar, scalar_
 use Rattle.alg_core.specs.Keys.{Key, key}
 use Rattle.alg_core.specs.Vectors.{Vect, vectors, vec, coef_at, plus, zero_vector}
 use Rattle.alg_core.specs.declared.term.Term.{Term}
-use Rattle.alg_core.specs.Spaces.{SpaceOver, entry, entries, Fits, IsPlace}
+use Rattle.alg_core.specs.Spaces.{SpaceOver, entry, entries, IsPlace}
 use Rattle.alg_core.proofs.VectorLaws.{vec_append, vec_nothing, vec_single, plus_assoc, plus_zero, zero_plus}
 use Rattle.poly_module.specs.Polynomials.{single_vector}
 use Rattle.poly_module.specs.SpaceVectors.{IsPoly, IsPolyOf, IsVectorOf, vector_of}

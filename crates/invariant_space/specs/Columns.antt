@@ -5,7 +5,7 @@
 --   IsImage S d v p            the terms p are those of v over the space S, and v is a form of degree d in its variables
 --   IsColumnPlace S c          the monomial of c is one of the space
 --   IsColumn S gens c          and the images are its images under the matrices
-use Rattle.std.specs.Prelude.{◌≡◌, ◌<◌, ℕ, List, [], All, length, map, slice_index_or}
+use Rattle.std.specs.Prelude.{◌≡◌, ◌<◌, ℕ, List, [], length, map, slice_index_or}
 use Rattle.alg_core.specs.Keys.{TermPlace, Key, key}
 use Rattle.alg_core.specs.Vectors.{Vect}
 use Rattle.alg_core.specs.declared.term.Term.{Term}

@@ -1,8 +1,8 @@
 -- The solution that uses no column which is a combination of those before it is the greedy choice of the columns, and of any
 -- vectors that have these columns as their coordinates.
-use Rattle.std.proofs.Common.{◌≡◌, ℕ, zero, suc, ◌+◌, ◌<◌, ◌≤◌, ◌⊎◌, inl, inr, List, [], ◌∷◌, ◌++◌, map, length, take, get_or, sym, ap, ap₂, ◌∙◌, refl, arith, subst}
+use Rattle.std.proofs.Common.{◌≡◌, ℕ, zero, suc, ◌<◌, ◌≤◌, ◌⊎◌, inl, inr, List, [], ◌∷◌, ◌++◌, map, length, take, get_or, sym, ap, ap₂, ◌∙◌, refl, arith, subst}
 use Rattle.std.proofs.lemmas.Bool.{cases_lt}
-use Rattle.std.proofs.lemmas.List.{length-map, length-append, get_or-map, take-map, take-append-le, take_all, ext_get_or}
+use Rattle.std.proofs.lemmas.List.{length-map, get_or-map, take-map, take-append-le, take_all, ext_get_or}
 use Rattle.alg_core.specs.Rings.{Ring, Module, Linear}
 use Rattle.alg_core.specs.ModuleLaws as modules
 use Rattle.alg_core.specs.Fields.{FieldOn, Scalar, scalar, scalars}
@@ -12,7 +12,7 @@ use Rattle.lin_algebra.specs.declared.matrix.Matrix.{Matrix}
 use Rattle.lin_algebra.specs.Vectors.{vectors, dot, unit, vector, IsRow}
 use Rattle.lin_algebra.specs.Matrices.{entries, first_columns, columns_of, IsSolution, IsDependent}
 use Rattle.lin_algebra.proofs.SpanLaws.{span_ind}
-use Rattle.lin_algebra.proofs.DotLaws.{dot_zero, dot_comm, dot_add_right, dot_act_right, dot_unit, dot_same}
+use Rattle.lin_algebra.proofs.DotLaws.{dot_zero, dot_comm, dot_add_right, dot_act_right, dot_unit}
 use Rattle.lin_algebra.proofs.CutLaws.{listing, length_listing, get_or-listing}
 use Rattle.lin_algebra.proofs.KernelOf.{Each_listing}
 

@@ -22,7 +22,7 @@ length_zeros zero = refl
 length_zeros (suc n) = ap suc (length_zeros n)
 
 -- the place of the monomial 1
-mono_zeros : (n : ℕ) → ◌≡◌ {A = ℕ × Mon} (0, mono (replicate n 0)) (0, monomials.one)
+pub mono_zeros : (n : ℕ) → ◌≡◌ {A = ℕ × Mon} (0, mono (replicate n 0)) (0, monomials.one)
 mono_zeros n = ap (λ (m : Mon). (0, m)) (mon_ext (mono (replicate n 0)) monomials.one (λ i. exponent_mono (replicate n 0) i ∙ exponent_zeros n i ∙ sym (exponent_one i)))
 
 -- the exponents of a variable

@@ -1,26 +1,19 @@
--- Sums of the values of terms, by halves; and the constant 1.
-use Rattle.std.proofs.Common.{◌≡◌, ℕ, List, [], ◌∷◌, ◌++◌, length, get_or, take, drop, replicate, refl, sym, ap, ap₂, ◌∙◌, arith, take-append-drop}
+-- Sums of the values of terms, by halves.
+use Rattle.std.proofs.Common.{◌≡◌, ℕ, List, [], ◌∷◌, ◌++◌, length, get_or, take, drop, refl, sym, ap, ap₂, ◌∙◌, arith, take-append-drop}
 use Rattle.std.proofs.lemmas.List.{map-append}
-use Rattle.alg_core.proofs.MonomialLists.{exponent_zeros}
-use Rattle.alg_core.specs.Monomials.{Mon, monomials, mono, exponent_mono, exponent_one, mon_ext}
+use Rattle.alg_core.specs.Monomials.{Mon, mono}
 use Rattle.alg_core.specs.Keys.{key}
 use Rattle.alg_core.specs.Vectors.{Vect, vec, plus, scale}
 use Rattle.alg_core.specs.declared.term.Term.{Term}
 use Rattle.alg_core.specs.Spaces.{SpaceOver, entry, entries}
 use Rattle.alg_core.proofs.VectorLaws.{vec_append, vec_nothing}
-use Rattle.poly_module.specs.Polynomials.{single_vector, one_vector, vector_ring}
-use Rattle.poly_module.specs.Products.{one_vector_single}
+use Rattle.poly_module.specs.Polynomials.{vector_ring}
 use Rattle.poly_module.specs.Substitutions.{monomial_value, monomial_value_mono, substitute, substitute_plus, substitute_scale, substitute_single, substitute_zero}
 use Rattle.poly_module.proofs.ExponentBounds.{vec_scaled}
-use Rattle.poly_module.proofs.PowerSteps.{scale_one}
 
 key_mono : (p : ℕ × List ℕ) → (key p).1 ≡ mono p.1
 unfolding key
 key_mono p = refl
-
-key_zeros : (n : ℕ) → key (0, replicate n 0) ≡ (0, monomials.one)
-unfolding key
-key_zeros n = ap (λ (m : Mon). (0, m)) (mon_ext (mono (replicate n 0)) monomials.one (λ i. exponent_mono (replicate n 0) i ∙ exponent_zeros n i ∙ sym (exponent_one i)))
 
 module _ {E M : Type 0} (S : SpaceOver E) (exps : M → List ℕ) where
   abbrev Terms : Type 0
@@ -52,8 +45,3 @@ module _ {E M : Type 0} (S : SpaceOver E) (exps : M → List ℕ) where
   value_halves xs n fs front back sum left right p q l r s =
       s ∙ ap₂ (plus S.field) l r ∙ sym (substitute_plus S.field xs _ _)
       ∙ ap (substitute S.field xs) (sym (vec_append S.field (entries exps front) (entries exps back)) ∙ ap (vec S.field) (sym (map-append (entry exps) front back) ∙ ap (entries exps) (ap₂ ◌++◌ p q ∙ take-append-drop n fs)))
-
-  -- the constant 1
-  pub constant_vector : (n : ℕ) (v : Terms) (f : Term E M) → f.coef ≡ S.field.one → f.at.pos ≡ 0 → exps f.at.mono ≡ replicate n 0 → vec S.field (entries exps v) ≡ vec S.field (entries exps (f ∷ [])) → vec S.field (entries exps v) ≡ one_vector S.field
-  constant_vector n v f unit first zeros is =
-      is ∙ vec_scaled S.field (entry exps f) ∙ scale_one S exps f.coef unit _ ∙ ap (single_vector S.field) (ap₂ (λ (i : ℕ) (a : List ℕ). key (i, a)) first zeros ∙ key_zeros n) ∙ sym (one_vector_single S.field)

@@ -1,6 +1,6 @@
 -- Remainders modulo small primes by a product with a rounded reciprocal.
-use Rattle.std.proofs.Common.{◌≡◌, ℕ, ◌+◌, ◌*◌, ◌/◌, ◌-◌, ◌%◌, ◌<◌, ◌≤◌, ◌⊎◌, inl, inr, true, arith, sym, subst}
-use Rattle.prime_field.specs.ListedPrimes.{is_listed, listed_one, listed_prime}
+use Rattle.std.proofs.Common.{◌≡◌, ℕ, ◌+◌, ◌*◌, ◌/◌, ◌-◌, ◌%◌, ◌<◌, ◌≤◌, inl, inr, true, arith, sym, subst}
+use Rattle.prime_field.specs.ListedPrimes.{is_listed, listed_one}
 
 -- the quotient and what it leaves of x
 pub record IsQuotient (p x : ℕ) : Type 0 where

@@ -22,5 +22,5 @@ returns-clause-mono g c =
 pub returns-clause-column : goal.returns-clause-column
 returns-clause-column g c =
     let S = over g.F.Field.field g.O.TermOrder.order c.args.space.now in
-    imaged_whole S c.args.gens.now (replicate (length S.weights) 0) c.loop-generator._generator-index record { at = record { pos = 0; mono = c.in_ok-mono.mono }; images = c.loop-generator.images } c.requires.polynomials.constants refl
+    imaged_whole S c.args.gens.now (replicate (length S.weights) 0) c.loop-generator._generator-index record { at = record { pos = 0; mono = c.in_ok-mono.mono }; images = c.loop-generator.images } c.requires.polynomials refl
     (returns-clause-mono g c) (length-replicate (length S.weights) 0) c.loop-generator-test.false c.loop-generator.auto._generator-index-end c.loop-generator.invariant

@@ -78,5 +78,5 @@ returns-clause-mono g c =
 pub returns-clause-column : goal.returns-clause-column
 returns-clause-column g c =
     let S = over g.F.Field.field g.O.TermOrder.order c.args.space.now in
-    imaged_whole S c.args.gens.now (product c.args.column.now.at.mono (unit_exponents (length S.weights) c.args.i)) c.loop-j.j record { at = record { pos = 0; mono = c.in_ok-mono.mono }; images = c.loop-j.images } c.requires.polynomials.constants refl
+    imaged_whole S c.args.gens.now (product c.args.column.now.at.mono (unit_exponents (length S.weights) c.args.i)) c.loop-j.j record { at = record { pos = 0; mono = c.in_ok-mono.mono }; images = c.loop-j.images } c.requires.polynomials refl
     (returns-clause-mono g c) (length_times (length S.weights) c.args.i c.args.column.now.at.mono c.requires.column.place.place.wide) c.loop-j-test.false c.loop-j.auto.j-end c.loop-j.invariant

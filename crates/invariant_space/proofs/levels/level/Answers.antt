@@ -1,7 +1,6 @@
-use Rattle.std.proofs.Common.{◌≡◌, ◌<◌, ◌+◌, ◌∙◌, ◌++◌, ◌∷◌, [], ap, map, subst, sym, arith, length}
+use Rattle.std.proofs.Common.{◌≡◌, ◌∙◌, ◌++◌, ◌∷◌, [], ap, map, subst, sym, arith, length}
 use Rattle.std.specs.Prelude.{All}
 use Rattle.std.proofs.lemmas.List.Elements.{All-push}
-use Rattle.poly_module.specs.GreatestExponents.{total}
 use Rattle.alg_core.specs.Spaces.{over}
 use Rattle.invariant_space.specs.Columns.{IsColumn}
 use Rattle.invariant_space.specs.Levels.{IsLevel}

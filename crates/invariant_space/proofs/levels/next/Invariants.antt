@@ -1,4 +1,4 @@
-use Rattle.std.proofs.Common.{◌≡◌, ◌<◌, ◌+◌, ◌++◌, ℕ, All, map, length, vec_len}
+use Rattle.std.proofs.Common.{◌<◌, ◌+◌, ◌++◌, ℕ, All, map, length, vec_len}
 use Rattle.std.specs.List.{flat_map}
 use Rattle.alg_core.specs.Spaces.{over}
 use Rattle.poly_module.specs.GreatestExponents.{total}

@@ -1,4 +1,4 @@
-use Rattle.std.proofs.Common.{◌≡◌, ◌<◌, ℕ, List, arith, length, subst, sym}
+use Rattle.std.proofs.Common.{◌≡◌, ◌<◌, ℕ, length, subst, sym}
 use Rattle.alg_core.specs.Fields.{scalars}
 use Rattle.lin_algebra.specs.Vectors.{vector}
 use Rattle.lin_algebra.proofs.BasisLaws.{zero_before_pivot}
