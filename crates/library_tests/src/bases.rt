@@ -78,7 +78,8 @@ fn basis_of(
     degree: u32,
     max_terms: u32,
 ) -> Result<Result<Vec<Poly<u16>>, SpaceFault>, Fail>
-    ensures polynomials { let S = over ⟦<PrimeField as Field>⟧.field ⟦<Dp as TermOrder>⟧.order space.now in IfOk result (λ r. IfOk r (λ b. ArePolys S (λ m. m) b.items)) }
+    ensures polynomials { let S = over ⟦<PrimeField as Field>⟧.field ⟦<Dp as TermOrder>⟧.order space.now in
+        IfOk result (λ r. IfOk r (λ b. ArePolys S (λ m. m) b.items)) }
 {
     let gens = generators(alloc, &space.field, 3, &[generator])?;
     if degree > 12288 || !has_polynomials(alloc, space)? {
