@@ -1,19 +1,13 @@
 -- Matrices of one size.
-use Rattle.std.proofs.Common.{◌≡◌, ◌<◌, ℕ, List, [], ◌∷◌, length, get_or, sym, subst, arith}
+use Rattle.std.proofs.Common.{◌≡◌, ◌<◌, ◌≤◌, ℕ, List, [], ◌∷◌, length, get_or, sym, subst, arith}
 use Rattle.std.specs.Prelude.{All}
 use Rattle.alg_core.specs.Fields.{FieldOn}
+use Rattle.alg_core.specs.Spaces.{SpaceOver}
 use Rattle.lin_algebra.specs.declared.matrix.Matrix.{Matrix}
-use Rattle.matrix_group.specs.Actions.{IsSquare}
+use Rattle.matrix_group.specs.Actions.{IsSquare, ActsOn}
 use Rattle.matrix_group.specs.Groups.{size}
 
 module _ {E : Type 0} (k : FieldOn E) (n : ℕ) where
-  pub rows : (ms : List (Matrix E)) → All (IsSquare k n) ms → All (λ m. m.rows ≡ n) ms
-  rows ms square = λ i d h. (square i d h).rows
-
-  -- each has the size that it says
-  pub own : (ms : List (Matrix E)) → All (IsSquare k n) ms → All (λ m. IsSquare k m.rows m) ms
-  own ms square = λ i d h. subst (λ (r : ℕ). IsSquare k r (get_or ms i d)) (sym (square i d h).rows) (square i d h)
-
   -- the first one tells the size of all
   pub size_is : (ms : List (Matrix E)) → 0 < length ms → All (IsSquare k n) ms → size ms ≡ n
   size_is [] some square = absurd (omega arith)
@@ -21,3 +15,11 @@ module _ {E : Type 0} (k : FieldOn E) (n : ℕ) where
 
   pub first : (ms : List (Matrix E)) → 0 < length ms → All (IsSquare k n) ms → All (IsSquare k (size ms)) ms
   first ms some square = subst (λ (s : ℕ). All (IsSquare k s) ms) (sym (size_is ms some square)) square
+
+-- matrices of one size act on polynomials in at least as many variables
+pub all_act : {E : Type 0} (S : SpaceOver E) (ms : List (Matrix E)) (n : ℕ) → All (IsSquare S.field n) ms → n ≤ length S.weights → All (ActsOn S) ms
+all_act S ms n square few = λ i d h.
+    let m = get_or ms i d in
+    let here = square i d h in
+    let rows : m.rows ≡ n = here.rows in
+    record { square = subst (λ (r : ℕ). IsSquare S.field r m) (sym rows) here; within = omega (arith, rows, few) }

@@ -1,13 +1,14 @@
 //! The Reynolds operator.
 
-ghost use Rattle.std.specs.Prelude.{◌≡◌, ◌≤◌, IfOk, All};
-ghost use Rattle.alg_core.specs.Spaces.{over, entries, Fits};
+ghost use Rattle.std.specs.Prelude.{◌≡◌, ◌≤◌, IfOk};
+ghost use Rattle.alg_core.specs.Spaces.{over};
+ghost use Rattle.poly_module.specs.Sizes.{IsLow};
+ghost use Rattle.poly_module.specs.SpaceVectors.{IsPoly};
 ghost use Rattle.matrix_group.specs.Groups.{size};
 ghost use Rattle.reynolds_op.specs.Averages.{IsMatrixGroup};
-ghost use Rattle.poly_module.specs.GreatestExponents.{total};
 
 use crate::matrices::generators;
-use crate::polynomials::{has_constants, read, shown, space};
+use crate::polynomials::{has_polynomials, read, shown, space};
 use crate::prime_fields::field;
 use alg_core::{Field, Space, TermOrder};
 use matrix_group::{Group, enumerate};
@@ -73,13 +74,12 @@ fn average_of<O: TermOrder>(
     group: &Group<u16>,
     f: &Poly<u16>,
 ) -> Result<Vec<u8>, Fail>
-    requires fits { Fits (over ⟦<PrimeField as Field>⟧.field O.order space.now) (entries (λ m. m) f.now) }
-    requires positions { All (λ e. e.0.0 ≡ 0) (entries (λ m. m) f.now) }
-    requires degrees { All (λ e. total e.0.1 ≤ 4294967295) (entries (λ m. m) f.now) }
+    requires polynomial { IsPoly (over ⟦<PrimeField as Field>⟧.field O.order space.now) (λ m. m) f.now }
+    requires low { IsLow 4294967295 (λ m. m) f.now }
     requires group { IsMatrixGroup (⟦<PrimeField as Field>⟧.field space.now.field) (size group.now) group.now }
     requires size { size group.now ≤ 3 }
 {
-    if !has_constants(alloc, space)? {
+    if !has_polynomials(alloc, space)? {
         return Err(Fail::new("no constants"));
     }
     let Some(reynolds) = Reynolds::of(&space.field, group) else {

@@ -1,10 +1,11 @@
 //! Echelon bases of the invariants of one degree.
 
-ghost use Rattle.std.specs.Prelude.{◌≡◌, IfOk, All};
-ghost use Rattle.alg_core.specs.Spaces.{over, entries, Fits};
+ghost use Rattle.std.specs.Prelude.{IfOk};
+ghost use Rattle.alg_core.specs.Spaces.{over};
+ghost use Rattle.poly_module.specs.SpaceVectors.{ArePolys};
 
 use crate::matrices::generators;
-use crate::polynomials::{has_constants, shown, space};
+use crate::polynomials::{has_polynomials, shown, space};
 use alg_core::{Dp, Field, Space, TermOrder};
 use invariant_space::{SpaceFault, basis};
 use poly_module::Poly;
@@ -77,10 +78,11 @@ fn basis_of(
     degree: u32,
     max_terms: u32,
 ) -> Result<Result<Vec<Poly<u16>>, SpaceFault>, Fail>
-    ensures fit { let S = over ⟦<PrimeField as Field>⟧.field ⟦<Dp as TermOrder>⟧.order space.now in IfOk result (λ r. IfOk r (λ b. All (λ f. Fits S (entries (λ m. m) f)) b.items)) }
+    ensures polynomials { let S = over ⟦<PrimeField as Field>⟧.field ⟦<Dp as TermOrder>⟧.order space.now in
+        IfOk result (λ r. IfOk r (λ b. ArePolys S (λ m. m) b.items)) }
 {
     let gens = generators(alloc, &space.field, 3, &[generator])?;
-    if degree > 12288 || !has_constants(alloc, space)? {
+    if degree > 12288 || !has_polynomials(alloc, space)? {
         return Err(Fail::new("no constants"));
     }
     Ok(basis(alloc, space, gens.as_slice(), degree, max_terms))

@@ -1,11 +1,13 @@
 //! The action of matrices on polynomials over GF(3), invariance, and the groups that matrices generate.
 
-ghost use Rattle.std.specs.Prelude.{◌≡◌, ◌≤◌, All};
-ghost use Rattle.alg_core.specs.Spaces.{over, entries, Fits};
-ghost use Rattle.poly_module.specs.GreatestExponents.{total};
+ghost use Rattle.std.specs.Prelude.{IfOk, All, length, ◌<◌};
+ghost use Rattle.alg_core.specs.Spaces.{over};
+ghost use Rattle.poly_module.specs.Sizes.{IsLow};
+ghost use Rattle.poly_module.specs.SpaceVectors.{IsPoly};
+ghost use Rattle.matrix_group.specs.Actions.{ActsOn};
 
 use crate::matrices::generators;
-use crate::polynomials::{has_constants, read, shown, space};
+use crate::polynomials::{has_polynomials, read, shown, space};
 use crate::prime_fields::field;
 use alg_core::{Field, Space, TermOrder};
 use lin_algebra::Matrix;
@@ -44,6 +46,22 @@ const IMAGES: [Image; 4] = [
     Image { f: "0", image: "0" },
 ];
 
+/// The 2 by 2 matrices, which act on polynomials of the space.
+#[tactic(auto, using(crate::proofs::SquareMatrices::all_act))]
+fn acting<O: TermOrder>(
+    alloc: Global,
+    space: &Space<PrimeField, O>,
+    lists: &[&[i16]],
+) -> Result<Vec<Matrix<u16>>, Fail>
+    ensures some { IfOk result (λ ms. 0 < length ms.items) }
+    ensures act { IfOk result (λ ms. All (ActsOn (over ⟦<PrimeField as Field>⟧.field O.order space.now)) ms.items) }
+{
+    if space.grading.weights.len() < 2 {
+        return Err(Fail::new("not two variables"));
+    }
+    generators(alloc, &space.field, 2, lists)
+}
+
 /// The text of the image of f under the first of the 2 by 2 matrices.
 fn image_of<O: TermOrder>(
     alloc: Global,
@@ -51,12 +69,11 @@ fn image_of<O: TermOrder>(
     f: &Poly<u16>,
     gens: &[&[i16]],
 ) -> Result<Vec<u8>, Fail>
-    requires fits { Fits (over ⟦<PrimeField as Field>⟧.field O.order space.now) (entries (λ m. m) f.now) }
-    requires positions { All (λ e. e.0.0 ≡ 0) (entries (λ m. m) f.now) }
-    requires degrees { All (λ e. total e.0.1 ≤ 4294967295) (entries (λ m. m) f.now) }
+    requires polynomial { IsPoly (over ⟦<PrimeField as Field>⟧.field O.order space.now) (λ m. m) f.now }
+    requires low { IsLow 4294967295 (λ m. m) f.now }
 {
-    let gens = generators(alloc, &space.field, 2, gens)?;
-    if !has_constants(alloc, space)? {
+    let gens = acting(alloc, space, gens)?;
+    if !has_polynomials(alloc, space)? {
         return Err(Fail::new("no constants"));
     }
     let image = act(alloc, space, f, &gens[0])?;
@@ -70,8 +87,8 @@ fn row_of<O: TermOrder>(
     gens: &[&[i16]],
     i: usize,
 ) -> Result<Vec<u8>, Fail> {
-    let gens = generators(alloc, &space.field, 2, gens)?;
-    if i >= 2 || !has_constants(alloc, space)? {
+    let gens = acting(alloc, space, gens)?;
+    if i as u64 >= gens[0].rows || !has_polynomials(alloc, space)? {
         return Err(Fail::new("no row"));
     }
     let form = row_form(alloc, space, &gens[0], i)?;
@@ -130,12 +147,11 @@ fn invariant<O: TermOrder>(
     f: &Poly<u16>,
     gens: &[&[i16]],
 ) -> Result<bool, Fail>
-    requires fits { Fits (over ⟦<PrimeField as Field>⟧.field O.order space.now) (entries (λ m. m) f.now) }
-    requires positions { All (λ e. e.0.0 ≡ 0) (entries (λ m. m) f.now) }
-    requires degrees { All (λ e. total e.0.1 ≤ 4294967295) (entries (λ m. m) f.now) }
+    requires polynomial { IsPoly (over ⟦<PrimeField as Field>⟧.field O.order space.now) (λ m. m) f.now }
+    requires low { IsLow 4294967295 (λ m. m) f.now }
 {
-    let gens = generators(alloc, &space.field, 2, gens)?;
-    if !has_constants(alloc, space)? {
+    let gens = acting(alloc, space, gens)?;
+    if !has_polynomials(alloc, space)? {
         return Err(Fail::new("no constants"));
     }
     Ok(is_invariant(alloc, space, f, gens.as_slice())?)

@@ -88,8 +88,6 @@ pub(crate) fn generators<F: Field<Elem = u16>>(
     lists: &[&[i16]],
 ) -> Result<Vec<Matrix<u16>>, Fail>
     ensures some { IfOk result (λ ms. 0 < length ms.items) }
-    ensures rows { IfOk result (λ ms. All (λ m. m.rows ≡ n) ms.items) }
-    ensures own { let k = F.field field.now in IfOk result (λ ms. All (λ m. IsSquare k m.rows m) ms.items) }
     ensures square { let k = F.field field.now in IfOk result (λ ms. All (IsSquare k n) ms.items) }
     ensures first { let k = F.field field.now in IfOk result (λ ms. All (IsSquare k (size ms.items)) ms.items) }
     ensures size { IfOk result (λ ms. size ms.items ≡ n) }

@@ -1,15 +1,18 @@
 //! Polynomials in x, y and z, read from their texts and printed again.
 
-ghost use Rattle.std.specs.Prelude.{◌≡◌, ◌≢◌, ◌<◌, ◌≤◌, [], get_or, IfOk, IsTrue, All, length, replicate};
+ghost use Rattle.std.specs.Prelude.{◌≡◌, ◌≢◌, ◌<◌, [], get_or, IfOk, IsTrue, All, length};
 ghost use Rattle.alg_core.specs.ExponentLists.{Within};
-ghost use Rattle.alg_core.specs.Spaces.{over, entries, Fits, IsPlace};
-ghost use Rattle.poly_module.specs.GreatestExponents.{total};
+ghost use Rattle.alg_core.specs.Spaces.{over, entries};
+ghost use Rattle.poly_module.specs.Sizes.{IsLow};
+ghost use Rattle.poly_module.specs.SpaceVectors.{IsVector, IsPoly, HasPolynomials};
 ghost use Rattle.poly_text.specs.Texts.{place_count};
 ghost use Rattle.poly_text.specs.Values.{AreDistinct};
 ghost use Rattle.library_tests.specs.Smallness.{IsSmall};
 
 use crate::prime_fields::field;
-use alg_core::{Dp, Field, Grading, ModTerm, Mono, Monomial, Name, Space, Term, TermOrder};
+use alg_core::{
+    Dp, Field, Grading, ModTerm, Mono, Monomial, Name, Space, Term, TermOrder, is_place,
+};
 use poly_module::Poly;
 use poly_text::{Names, print_poly, read_poly};
 use prime_field::PrimeField;
@@ -38,25 +41,21 @@ pub(crate) fn space_by<O: TermOrder>(
 
 /// Polynomials in three variables over GF(p), with the order `Dp`.
 pub(crate) fn space(alloc: Global, p: u32) -> Result<Space<PrimeField, Dp>, Fail> {
-    let order = Dp {
-        weights: vec![in alloc; 1, 1, 1]?,
-    };
-    space_by(alloc, p, order, &[1, 1, 1], &[0])
+    Ok(Space::of_variables(alloc, field(p)?, 3)?)
 }
 
-/// Whether there are three variables, and constants are polynomials of the space.
-pub(crate) fn has_constants<F: Field<Elem = u16>, O: TermOrder>(
+/// Whether there are three variables, and polynomials in them.
+pub(crate) fn has_polynomials<F: Field<Elem = u16>, O: TermOrder>(
     alloc: Global,
     space: &Space<F, O>,
 ) -> Result<bool, Fail>
     ensures three { IfOk result (λ b. IsTrue b → length space.now.grading.weights.items ≡ 3) }
-    ensures has { let S = over F.field O.order space.now in IfOk result (λ b. IsTrue b → IsPlace S (0, replicate (length S.weights) 0)) }
+    ensures has { IfOk result (λ b. IsTrue b → HasPolynomials (over F.field O.order space.now)) }
 {
     let zeros = vec![in alloc; 0; space.grading.weights.len()]?;
     let mono = Mono::from_exps(alloc, zeros.as_slice())?;
     let at = ModTerm { pos: 0, mono };
-    let is_place = space.grading.shifts.len() > 0 && space.order.fits(&at);
-    Ok(is_place && space.grading.weights.len() == 3)
+    Ok(is_place(space, &at) && space.grading.weights.len() == 3)
 }
 
 /// The names x, y and z, with as many primary invariants and irreducible generators.
@@ -131,7 +130,7 @@ fn is_small_term(t: &Term<u16, Mono>) -> bool
 /// Whether this holds of each term.
 pub(crate) fn is_small(f: &Poly<u16>) -> bool
     ensures positions { IsTrue result → All (λ e. e.0.0 ≡ 0) (entries (λ m. m) f.now) }
-    ensures degrees { IsTrue result → All (λ e. total e.0.1 ≤ 4294967295) (entries (λ m. m) f.now) }
+    ensures low { IsTrue result → IsLow 4294967295 (λ m. m) f.now }
     ensures is { IsTrue result → IsSmall (entries (λ m. m) f.now) }
 {
     let terms = f.terms();
@@ -150,15 +149,14 @@ pub(crate) fn read<O: TermOrder>(
     space: &Space<PrimeField, O>,
     text: &str,
 ) -> Result<Poly<u16>, Fail>
-    ensures fits { let S = over ⟦<PrimeField as Field>⟧.field O.order space.now in IfOk result (λ f. Fits S (entries (λ m. m) f)) }
-    ensures positions { IfOk result (λ f. All (λ e. e.0.0 ≡ 0) (entries (λ m. m) f)) }
-    ensures degrees { IfOk result (λ f. All (λ e. total e.0.1 ≤ 4294967295) (entries (λ m. m) f)) }
+    ensures polynomial { IfOk result (IsPoly (over ⟦<PrimeField as Field>⟧.field O.order space.now) (λ m. m)) }
+    ensures low { IfOk result (IsLow 4294967295 (λ m. m)) }
     ensures small { IfOk result (λ f. IsSmall (entries (λ m. m) f)) }
 {
     let names = names(alloc, None, None)?;
     if !has_places(&names, space.grading.weights.len())
         || !are_three(&names)
-        || !has_constants(alloc, space)?
+        || !has_polynomials(alloc, space)?
     {
         return Err(Fail::new("no polynomials in x, y and z"));
     }
@@ -174,7 +172,7 @@ pub(crate) fn shown<O: TermOrder>(
     space: &Space<PrimeField, O>,
     f: &Poly<u16>,
 ) -> Result<Vec<u8>, Fail>
-    requires fits { Fits (over ⟦<PrimeField as Field>⟧.field O.order space.now) (entries (λ m. m) f.now) }
+    requires vector { IsVector (over ⟦<PrimeField as Field>⟧.field O.order space.now) (λ m. m) f.now }
 {
     let names = names(alloc, None, None)?;
     if !has_places(&names, space.grading.weights.len()) || !is_small(f) {

@@ -1,10 +1,11 @@
 //! Texts of polynomials: what is read prints again, and what is told of all other texts.
 
-ghost use Rattle.std.specs.Prelude.{◌≡◌, IfOk, IsTrue, length, replicate};
-ghost use Rattle.alg_core.specs.Spaces.{over, IsPlace};
+ghost use Rattle.std.specs.Prelude.{IfOk, IsTrue};
+ghost use Rattle.alg_core.specs.Spaces.{over};
+ghost use Rattle.poly_module.specs.SpaceVectors.{HasPolynomials};
 
 use crate::polynomials::{are_three, has_places, names, space_by};
-use alg_core::{Dp, Field, ModTerm, Mono, Space, TermOrder, ValueKind};
+use alg_core::{Dp, Field, ModTerm, Mono, Space, TermOrder, ValueKind, is_place};
 use poly_text::{Names, TextFault, print_poly, read_poly};
 use prime_field::PrimeField;
 use std::alloc::Global;
@@ -23,14 +24,14 @@ fn space(alloc: Global, p: u32, is_marked: bool) -> Result<Space<PrimeField, Dp>
     space_by(alloc, p, order, weights, &[0])
 }
 
-/// Whether constants are polynomials of the space.
-fn has_constants(alloc: Global, space: &Space<PrimeField, Dp>) -> Result<bool, Fail>
-    ensures has { let S = over ⟦<PrimeField as Field>⟧.field ⟦<Dp as TermOrder>⟧.order space.now in IfOk result (λ b. IsTrue b → IsPlace S (0, replicate (length S.weights) 0)) }
+/// Whether there are polynomials over the space.
+fn has_polynomials(alloc: Global, space: &Space<PrimeField, Dp>) -> Result<bool, Fail>
+    ensures has { IfOk result (λ b. IsTrue b → HasPolynomials (over ⟦<PrimeField as Field>⟧.field ⟦<Dp as TermOrder>⟧.order space.now)) }
 {
     let zeros = vec![in alloc; 0; space.grading.weights.len()]?;
     let mono = Mono::from_exps(alloc, zeros.as_slice())?;
     let at = ModTerm { pos: 0, mono };
-    Ok(space.grading.shifts.len() > 0 && space.order.fits(&at))
+    Ok(is_place(space, &at))
 }
 
 /// What `read_poly` answers, the polynomial by its printed text.
@@ -42,7 +43,7 @@ fn read_again(
 ) -> Result<Result<Vec<u8>, TextFault>, Fail> {
     if !has_places(names, space.grading.weights.len())
         || !are_three(names)
-        || !has_constants(alloc, space)?
+        || !has_polynomials(alloc, space)?
     {
         return Err(Fail::new("no polynomials in these names"));
     }

@@ -2,7 +2,7 @@ use Rattle.std.proofs.Common.{◌<◌, length, arith}
 use Rattle.matrix_group.specs.Actions.{IsSquare}
 use Rattle.matrix_group.specs.Groups.{HasInverse}
 use Rattle.library_tests.proofs.SmallEntries.{all_added}
-use Rattle.library_tests.proofs.SquareMatrices.{own, rows, first, size_is}
+use Rattle.library_tests.proofs.SquareMatrices.{first, size_is}
 use Rattle.library_tests.proofs.matrices.generators.Goals as goal
 
 pub loop-numbers-preserved : goal.loop-numbers-preserved
@@ -21,8 +21,6 @@ returns g c =
     let some : 0 < length ms = let none = c.if-len-eq0.false in let len = c.len.ensures in omega (arith, none, len) in
     record {
       some = some;
-      rows = rows k c.args.n ms c.loop-numbers.invariant.square;
-      own = own k c.args.n ms c.loop-numbers.invariant.square;
       square = c.loop-numbers.invariant.square;
       first = first k c.args.n ms some c.loop-numbers.invariant.square;
       size = size_is k c.args.n ms some c.loop-numbers.invariant.square;

@@ -14,4 +14,4 @@ loop-i-preserved c =
 pub returns : goal.returns
 returns c =
     let all = all_done (entry (λ m. m)) IsSmallEntry c.terms-terms.result.now _ c.loop-i.i (omega arith) c.terms-terms.ensures.is c.loop-i.invariant in
-    record { positions = λ _. positions (entries (λ m. m) c.args.f.now) all; degrees = λ _. totals (entries (λ m. m) c.args.f.now) all; is = λ _. all }
+    record { positions = λ _. positions (entries (λ m. m) c.args.f.now) all; low = λ _. totals (entries (λ m. m) c.args.f.now) all; is = λ _. all }

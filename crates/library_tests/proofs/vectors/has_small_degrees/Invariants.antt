@@ -1,4 +1,4 @@
-use Rattle.std.proofs.Common.{◌<◌, ◌^◌, take}
+use Rattle.std.proofs.Common.{◌≤◌, ◌-◌, ◌^◌, take}
 use Rattle.std.specs.Prelude.{All}
 use Rattle.alg_core.specs.Keys.{key}
 use Rattle.alg_core.specs.Spaces.{over, entries}
@@ -8,4 +8,4 @@ use Rattle.library_tests.proofs.vectors.has_small_degrees.Given as goal
 abbrev pub invariant-loop-i : goal.invariant-loop-i
 invariant-loop-i g l =
     let S = over g.F.Field.field g.O.TermOrder.order l.space in
-    All (λ e. degree S (key e.0) < 2 ^ 64) (entries (λ m. m) (take l.i l.terms))
+    All (λ e. degree S (key e.0) ≤ 2 ^ 64 - 1) (entries (λ m. m) (take l.i l.terms))
