@@ -7,6 +7,7 @@ pub mod FormalSumLaws
 pub mod FreeModules
 pub mod Fields
 pub mod Names
+pub mod LimitRanges
 pub mod Binomials
 pub mod Monomials
 pub mod Keys
@@ -24,4 +25,3 @@ pub mod SpaceOrder
 pub mod Lists
 pub mod SpaceGrading
 pub mod CommonMultiples
-pub mod LimitRanges
