@@ -7,6 +7,7 @@ pub mod FormalSumLaws
 pub mod FreeModules
 pub mod Fields
 pub mod Names
+pub mod LimitRanges
 pub mod Binomials
 pub mod Monomials
 pub mod Keys
@@ -29,4 +30,3 @@ pub mod MonomialParts
 pub mod PolynomialSpaces
 pub mod VectorEntries
 pub mod Spans
-pub mod LimitRanges

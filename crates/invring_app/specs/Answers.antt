@@ -1,8 +1,8 @@
 -- What bytes have for an answer.
 --
---   Ends r i e           the request r ends so at the input i
---   IsAnswer c l bytes e the bytes are read as an input of the command c, and under the limits l it ends so there
---   IsFault c l bytes f  why the bytes have no answer: they are refused, a bound stops the command there, or memory was refused
+--   Ends r i e            the request r ends so at the input i
+--   IsAnswer c l bytes e  the bytes are read as an input of the command c, and under the limits l it ends so there
+--   IsFault c l bytes f   why the bytes have no answer: they are refused, a bound stops the command there, or memory was refused
 use Rattle.std.specs.Prelude.{ℕ, List}
 use Rattle.alg_core.specs.declared.limits.Limits.{Limits}
 use Rattle.invring_app.specs.declared.commands.Command.{Command}
