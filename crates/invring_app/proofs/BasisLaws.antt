@@ -45,7 +45,7 @@ module _ {X : Type 0} (view : X → List (Entry ℕ)) (script : Script) (space :
 
   -- the lines are those of the basis of the script
   pub basis_is : IsSound script → n ≡ length script.names.items → IsPrimeField script.characteristic (gfp space.field.p space.field.listed) → space.order.weights.items ≡ replicate n 1 → space.grading.weights.items ≡ replicate n 1 → space.grading.shifts.items ≡ 0 ∷ []
-      → names.vars.items ≡ script.names.items → names.primaries ≡ None → names.irreducibles ≡ None → All (λ p. Fits (over (λ (f : PrimeField). gfp f.p f.listed) (λ (o : Dp). dp_order o.weights.items) space) (view p)) basis
+      → names.vars ≡ script.names.items → names.primaries ≡ None → names.irreducibles ≡ None → All (λ p. Fits (over (λ (f : PrimeField). gfp f.p f.listed) (λ (o : Dp). dp_order o.weights.items) space) (view p)) basis
       → All (λ p. All (λ e. e.0.0 ≡ 0) (view p)) basis
       → IsEchelonBasis (over (λ (f : PrimeField). gfp f.p f.listed) (λ (o : Dp). dp_order o.weights.items) space) script.gens.items d (map (λ p. vec (gfp space.field.p space.field.listed) (view p)) basis)
       → text ≡ lines (over (λ (f : PrimeField). gfp f.p f.listed) (λ (o : Dp). dp_order o.weights.items) space) names (map view basis)

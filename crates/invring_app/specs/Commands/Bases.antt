@@ -39,7 +39,7 @@ AreMatricesOf q ms =
     ≡ map {B = ℕ × ℕ × List ℕ} (λ (cells : List ℕ). (variable_count q, variable_count q, cells)) q.generators
 
 pub record AreNamesOf (q : Problem) (names : Names) : Type 0 where
-  pub vars : names.vars.items ≡ q.variables
+  pub vars : names.vars ≡ q.variables
   pub primaries : names.primaries ≡ None
   pub irreducibles : names.irreducibles ≡ None
 

@@ -1,8 +1,9 @@
 //! The echelon basis of the invariants of one degree, as lines of text.
 
-ghost use Rattle.std.specs.Prelude.{◌≡◌, ◌<◌, ◌≤◌, ◌∷◌, ℕ, [], IfErr, IfOk, length, map, replicate, All};
+ghost use Rattle.std.specs.Prelude.{◌≡◌, ◌<◌, ◌≤◌, ◌∷◌, ℕ, [], IfErr, IfOk, length, map, replicate};
 ghost use Rattle.alg_core.specs.LimitRanges.{AreLimits};
-ghost use Rattle.alg_core.specs.Spaces.{over, entries, Fits};
+ghost use Rattle.alg_core.specs.Spaces.{over, entries};
+ghost use Rattle.poly_module.specs.SpaceVectors.{ArePolys};
 ghost use Rattle.finvar_text.specs.Problems.{problem_in, IsSound};
 ghost use Rattle.poly_text.specs.Texts.{place_count};
 ghost use Rattle.invring_app.specs.Commands.Bases.{lines, count_of, IsBasisText, IsBoundTold};
@@ -53,10 +54,10 @@ fn lines(
     names: &Names,
     basis: &[Poly<u16>],
 ) -> Result<Vec<u8>, Memory>
-    requires fit { let S = over (⟦<PrimeField as Field>⟧.field) (⟦<Dp as TermOrder>⟧.order) space.now in All (λ p. Fits S (entries (λ m. m) p)) basis.now }
-    requires polynomials { All (λ p. All (λ e. e.0.0 ≡ 0) (entries (λ m. m) p)) basis.now }
+    requires polynomials { ArePolys (over (⟦<PrimeField as Field>⟧.field) (⟦<Dp as TermOrder>⟧.order) space.now) (λ m. m) basis.now }
     requires places { length space.now.grading.weights.items ≡ place_count names.now }
-    ensures text { let S = over (⟦<PrimeField as Field>⟧.field) (⟦<Dp as TermOrder>⟧.order) space.now in IfOk result (λ t. t.items ≡ lines S names.now (map (entries (λ m. m)) basis.now)) }
+    ensures text { let S = over (⟦<PrimeField as Field>⟧.field) (⟦<Dp as TermOrder>⟧.order) space.now in
+        IfOk result (λ t. t.items ≡ lines S names.now (map (entries (λ m. m)) basis.now)) }
 {
     let mut text = Vec::new(alloc);
     for i in 0..basis.len() {

@@ -1,8 +1,9 @@
-use Rattle.std.proofs.Common.{◌≡◌, ℕ, List, All, None, length, map, ap, sym, subst, ◌∙◌, refl}
+use Rattle.std.proofs.Common.{◌≡◌, ℕ, List, None, length, map, ap, sym, subst, ◌∙◌, refl}
 use Rattle.alg_core.specs.DpOrder.{dp_order}
 use Rattle.alg_core.specs.Spaces.{over, entries}
-use Rattle.alg_core.specs.Vectors.{Entry, vec}
+use Rattle.alg_core.specs.Vectors.{vec}
 use Rattle.alg_core.specs.declared.dp.Dp.{Dp}
+use Rattle.poly_module.specs.SpaceVectors.{ArePolys}
 use Rattle.invariant_space.specs.InvariantSpaces.{IsEchelonBasis}
 use Rattle.lin_algebra.specs.declared.matrix.Matrix.{Matrix}
 use Rattle.prime_field.specs.PrimeFields.{gfp, IsPrimeField}
@@ -28,8 +29,9 @@ returns-clause-basis c =
     subst (λ (gs : List (Matrix ℕ)). IsEchelonBasis S gs c.args.degree (map (λ p. vec (gfp space.field.p space.field.listed) (entries (λ (m : List ℕ). m) p)) c.in_ok-basis.basis.items)) c.deref-2.ensures.value c.in_ok-basis.ensures.echelon in
     basis_is (entries (λ (m : List ℕ). m)) c.args.script space (record { vars = c.args.script.names; primaries = None; irreducibles = None }) c.in_ok-basis.basis.items (length c.deref.result.now) c.args.degree c.in_ok-text.text.items
     c.requires.sound (ap length c.deref.ensures.value) field c.in_ok-space.ensures.order c.in_ok-space.ensures.weights c.in_ok-space.ensures.shifts refl refl refl
-    c.in_ok-basis.ensures.fits c.in_ok-basis.ensures.polynomials echelon (c.in_ok-text.ensures.text ∙ ap (λ ps. lines S (record { vars = c.args.script.names; primaries = None; irreducibles = None }) (map (entries (λ (m : List ℕ). m)) ps)) c.deref-3.ensures.value)
+    (λ k p w. (c.in_ok-basis.ensures.polynomials k p w).fits) (λ k p w. (c.in_ok-basis.ensures.polynomials k p w).position) echelon (c.in_ok-text.ensures.text ∙ ap (λ ps. lines S (record { vars = c.args.script.names; primaries = None; irreducibles = None }) (map (entries (λ (m : List ℕ). m)) ps)) c.deref-3.ensures.value)
 
 pub lines-requires-clause-polynomials : goal.lines-requires-clause-polynomials
 lines-requires-clause-polynomials c =
-    subst (λ ps. All (λ p. All (λ (e : Entry ℕ). e.0.0 ≡ 0) (entries (λ (m : List ℕ). m) p)) ps) (sym c.deref-3.ensures.value) c.in_ok-basis.ensures.polynomials
+    let S = over (λ (f : PrimeField). gfp f.p f.listed) (λ (o : Dp). dp_order o.weights.items) c.in_ok-space.space in
+    subst (ArePolys S (λ (m : List ℕ). m)) (sym c.deref-3.ensures.value) c.in_ok-basis.ensures.polynomials

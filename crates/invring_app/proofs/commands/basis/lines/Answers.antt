@@ -1,7 +1,7 @@
-use Rattle.std.proofs.Common.{◌≡◌, ℕ, List, All, sym, subst, ◌∙◌}
+use Rattle.std.proofs.Common.{◌≡◌, ℕ, List, sym, subst, ◌∙◌}
 use Rattle.alg_core.specs.DpOrder.{dp_order}
 use Rattle.alg_core.specs.Spaces.{over, entries}
-use Rattle.alg_core.specs.Vectors.{Entry}
+use Rattle.poly_module.specs.SpaceVectors.{IsPoly}
 use Rattle.alg_core.specs.declared.dp.Dp.{Dp}
 use Rattle.prime_field.specs.PrimeFields.{gfp}
 use Rattle.prime_field.specs.declared.gfp.PrimeField.{PrimeField}
@@ -9,7 +9,9 @@ use Rattle.invring_app.proofs.BasisLaws.{lines_next, lines_all}
 use Rattle.invring_app.proofs.commands.basis.lines.Goals as goal
 
 pub print_poly-requires-clause-polynomial : goal.print_poly-requires-clause-polynomial
-print_poly-requires-clause-polynomial c = subst (λ p. All (λ (e : Entry ℕ). e.0.0 ≡ 0) (entries (λ (m : List ℕ). m) p)) (sym c.index-basis-i.is) (c.requires.polynomials c.loop-i.i c.index-basis-i.result c.loop-i-test.true)
+print_poly-requires-clause-polynomial c =
+    let S = over (λ (f : PrimeField). gfp f.p f.listed) (λ (o : Dp). dp_order o.weights.items) c.args.space.now in
+    subst (IsPoly S (λ (m : List ℕ). m)) (sym c.index-basis-i.is) (c.requires.polynomials c.loop-i.i c.index-basis-i.result c.loop-i-test.true)
 
 pub loop-i-preserved : goal.loop-i-preserved
 loop-i-preserved c =
