@@ -98,7 +98,7 @@ same-names S names other (f ∷ es) e =
 
 variable-one : (q : Problem) (names other : Names) → AreNamesOf q names → AreNamesOf q other → (i : ℕ) → variable_at names i ≡ variable_at other i
 variable-one q names other h g i =
-    let vars : names.vars.items ≡ other.vars.items = h.vars ∙ sym g.vars in
+    let vars : names.vars ≡ other.vars = h.vars ∙ sym g.vars in
     let primaries : names.primaries ≡ other.primaries = h.primaries ∙ sym g.primaries in
     cc
 

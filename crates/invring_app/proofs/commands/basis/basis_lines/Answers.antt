@@ -27,9 +27,9 @@ returns-clause-basis c =
     let field : IsPrimeField c.args.script.characteristic (gfp space.field.p space.field.listed) = subst (λ (f : PrimeField). IsPrimeField c.args.script.characteristic (gfp f.p f.listed)) (sym c.in_ok-space.ensures.field) c.field_of-field.ensures.is in
     let echelon : IsEchelonBasis S c.args.script.gens.items c.args.degree (map (λ p. vec (gfp space.field.p space.field.listed) (entries (λ (m : List ℕ). m) p)) c.in_ok-basis.basis.items) =
     subst (λ (gs : List (Matrix ℕ)). IsEchelonBasis S gs c.args.degree (map (λ p. vec (gfp space.field.p space.field.listed) (entries (λ (m : List ℕ). m) p)) c.in_ok-basis.basis.items)) c.deref-2.ensures.value c.in_ok-basis.ensures.echelon in
-    basis_is (entries (λ (m : List ℕ). m)) c.args.script space (record { vars = c.args.script.names; primaries = None; irreducibles = None }) c.in_ok-basis.basis.items (length c.deref.result.now) c.args.degree c.in_ok-text.text.items
+    basis_is (entries (λ (m : List ℕ). m)) c.args.script space (record { vars = c.args.script.names.items; primaries = None; irreducibles = None }) c.in_ok-basis.basis.items (length c.deref.result.now) c.args.degree c.in_ok-text.text.items
     c.requires.sound (ap length c.deref.ensures.value) field c.in_ok-space.ensures.order c.in_ok-space.ensures.weights c.in_ok-space.ensures.shifts refl refl refl
-    (λ k p w. (c.in_ok-basis.ensures.polynomials k p w).fits) (λ k p w. (c.in_ok-basis.ensures.polynomials k p w).position) echelon (c.in_ok-text.ensures.text ∙ ap (λ ps. lines S (record { vars = c.args.script.names; primaries = None; irreducibles = None }) (map (entries (λ (m : List ℕ). m)) ps)) c.deref-3.ensures.value)
+    (λ k p w. (c.in_ok-basis.ensures.polynomials k p w).fits) (λ k p w. (c.in_ok-basis.ensures.polynomials k p w).position) echelon (c.in_ok-text.ensures.text ∙ ap (λ ps. lines S (record { vars = c.args.script.names.items; primaries = None; irreducibles = None }) (map (entries (λ (m : List ℕ). m)) ps)) c.deref-3.ensures.value)
 
 pub lines-requires-clause-polynomials : goal.lines-requires-clause-polynomials
 lines-requires-clause-polynomials c =
