@@ -89,9 +89,9 @@ pub(crate) fn has_places(names: &Names, n: usize) -> bool
 
 /// Whether two of the names are different.
 fn differ(names: &Names, i: usize, j: usize) -> bool
-    requires first { i < length names.now.vars.items }
-    requires second { j < length names.now.vars.items }
-    ensures is { IsTrue result → get_or names.now.vars.items i [] ≢ get_or names.now.vars.items j [] }
+    requires first { i < length names.now.vars }
+    requires second { j < length names.now.vars }
+    ensures is { IsTrue result → get_or names.now.vars i [] ≢ get_or names.now.vars j [] }
 {
     let first = names.vars[i].bytes();
     let second = names.vars[j].bytes();
