@@ -13,39 +13,13 @@ ghost use Rattle.invring_app.specs.Endings.{Answers};
 use crate::commands::Command;
 use crate::fault::Fault;
 use crate::field::field_of;
-use alg_core::{Dp, Field, Grading, Limits, Memory, Name, Space, TermOrder};
+use alg_core::{Dp, Field, Limits, Memory, Space, TermOrder};
 use finvar_text::{Script, read_script};
 use invariant_space::{SpaceFault, basis};
 use poly_module::Poly;
 use poly_text::{Names, print_poly};
 use prime_field::PrimeField;
 use std::alloc::Global;
-
-/// The polynomials in these variables, each of degree 1, by degree reverse lexicographic order.
-fn polynomials(
-    alloc: Global,
-    field: PrimeField,
-    names: &[Name],
-) -> Result<Space<PrimeField, Dp>, Memory>
-    ensures field { IfOk result (λ s. s.field ≡ field) }
-    ensures order { IfOk result (λ s. s.order.weights.items ≡ replicate (length names.now) 1) }
-    ensures weights { IfOk result (λ s. s.grading.weights.items ≡ replicate (length names.now) 1) }
-    ensures shifts { IfOk result (λ s. s.grading.shifts.items ≡ 0 ∷ []) }
-{
-    let n = names.len();
-    let order = Dp {
-        weights: vec![in alloc; 1; n]?,
-    };
-    let grading = Grading {
-        weights: vec![in alloc; 1; n]?,
-        shifts: vec![in alloc; 0]?,
-    };
-    Ok(Space {
-        field,
-        order,
-        grading,
-    })
-}
 
 /// The printed text of each polynomial, and a newline after it.
 fn lines(
@@ -84,7 +58,8 @@ fn basis_lines(
     ensures bound { IfErr result (IsBoundTold degree max_terms (problem_in script)) }
 {
     let field = field_of(script.characteristic);
-    let space = polynomials(alloc, field, &script.names)?;
+    let variables = script.names.len() as u32;
+    let space = Space::of_variables(alloc, field, variables)?;
     let basis = basis(alloc, &space, &script.gens, degree, max_terms)?;
     let names = Names {
         vars: script.names,
