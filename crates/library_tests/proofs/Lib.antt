@@ -1,2 +1,3 @@
+pub mod BasisRuns
 pub mod SmallEntries
 pub mod SquareMatrices

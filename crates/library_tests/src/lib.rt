@@ -1,5 +1,6 @@
 //! Tests of the libraries: each public call once where it answers, at concrete types, and values that
-//! come from outside. What a clause says is proved, and is not tested here.
+//! come from outside. What a clause says is proved, and is not tested here. `run_in_memory` is an
+//! example of use.
 #![tactic(auto)]
 
 #[cfg(test)]
@@ -20,6 +21,7 @@ mod outside;
 mod polynomials;
 #[cfg(test)]
 mod prime_fields;
+mod runs;
 #[cfg(test)]
 mod scripts;
 #[cfg(test)]
@@ -28,3 +30,5 @@ mod terms;
 mod texts;
 #[cfg(test)]
 mod vectors;
+
+pub use runs::run_in_memory;
