@@ -65,7 +65,8 @@ pub(crate) fn times<F: Field, O: TermOrder>(
     requires degree { total column.now.at.mono < 12288 }
     requires variable { i < length space.now.grading.weights.items }
     ensures column { let S = over F.field O.order space.now in IfOk result (IsColumn S gens.now) }
-    ensures mono { IfOk result (λ c. c.at.mono ≡ product column.now.at.mono (slice_set (replicate (length space.now.grading.weights.items) 0) i 1)) }
+    ensures mono { IfOk result (λ c. c.at.mono
+        ≡ product column.now.at.mono (slice_set (replicate (length space.now.grading.weights.items) 0) i 1)) }
 {
     let mut images = Vec::new(alloc);
     for (j, generator) in gens.iter().enumerate() {

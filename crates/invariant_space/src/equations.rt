@@ -27,9 +27,11 @@ fn value_at<F: Field, O: TermOrder>(
     requires fits { Fits (over F.field O.order space.now) (entries (λ m. m) terms.now) }
     ensures within { IsSome result → j < length terms.now }
     ensures some { let S = over F.field O.order space.now in IfSome result (λ a. (ps : List TermPlace) →
-        spread S (entries (λ m. m) (drop j terms.now)) ((at.now.pos, at.now.mono) ∷ ps) ≡ a ∷ spread S (entries (λ m. m) (drop (j + 1) terms.now)) ps) }
+        spread S (entries (λ m. m) (drop j terms.now)) ((at.now.pos, at.now.mono) ∷ ps)
+        ≡ a ∷ spread S (entries (λ m. m) (drop (j + 1) terms.now)) ps) }
     ensures none { let S = over F.field O.order space.now in IfNone result ((ps : List TermPlace) →
-        spread S (entries (λ m. m) (drop j terms.now)) ((at.now.pos, at.now.mono) ∷ ps) ≡ S.field.zero ∷ spread S (entries (λ m. m) (drop j terms.now)) ps) }
+        spread S (entries (λ m. m) (drop j terms.now)) ((at.now.pos, at.now.mono) ∷ ps)
+        ≡ S.field.zero ∷ spread S (entries (λ m. m) (drop j terms.now)) ps) }
 {
     if j >= terms.len() {
         return None;
@@ -50,7 +52,8 @@ fn coordinates<F: Field, O: TermOrder>(
 ) -> Result<Vec<F::Elem>, Memory>
     requires places { All (IsColumnPlace (over F.field O.order space.now)) columns.now }
     requires fits { Fits (over F.field O.order space.now) (entries (λ m. m) f.now) }
-    ensures spread { let S = over F.field O.order space.now in IfOk result (λ r. r.items ≡ spread S (entries (λ m. m) f.now) (places_of columns.now)) }
+    ensures spread { let S = over F.field O.order space.now in
+        IfOk result (λ r. r.items ≡ spread S (entries (λ m. m) f.now) (places_of columns.now)) }
 {
     let terms = f.terms();
     let mut row = Vec::new(alloc);
@@ -77,7 +80,8 @@ fn block<F: Field, O: TermOrder>(
     i: usize,
 ) -> Result<Vec<Vec<F::Elem>>, Memory>
     requires columns { All (IsColumn (over F.field O.order space.now) gens.now) columns.now }
-    requires monomials { let S = over F.field O.order space.now in (d : ℕ) × IsMonomialList (key_order S) (length S.weights) d (keys_of columns.now) }
+    requires monomials { let S = over F.field O.order space.now in
+        (d : ℕ) × IsMonomialList (key_order S) (length S.weights) d (keys_of columns.now) }
     requires generator { i < length gens.now }
     ensures block { let S = over F.field O.order space.now in
         IfOk result (λ b. (m : Matrix F.Elem) → m ≡ slice_index_or gens.now i m → IsBlock S columns.now m (map (λ r. r.items) b.items)) }
@@ -124,7 +128,8 @@ pub(crate) fn equations<F: Field, O: TermOrder>(
     columns: &[Column<F::Elem>],
 ) -> Result<Matrix<F::Elem>, Memory>
     requires columns { All (IsColumn (over F.field O.order space.now) gens.now) columns.now }
-    requires monomials { let S = over F.field O.order space.now in (d : ℕ) × IsMonomialList (key_order S) (length S.weights) d (keys_of columns.now) }
+    requires monomials { let S = over F.field O.order space.now in
+        (d : ℕ) × IsMonomialList (key_order S) (length S.weights) d (keys_of columns.now) }
     ensures equations { let S = over F.field O.order space.now in IfOk result (IsEquations S.field (keys_of columns.now) gens.now) }
 {
     let cols = columns.len() as u64;

@@ -37,7 +37,8 @@ fn push_products<F: Field, O: TermOrder>(
     requires degree { total column.now.at.mono < 12288 }
     requires columns { All (IsColumn (over F.field O.order space.now) gens.now) above.old.items }
     ensures columns { OnOk result (All (IsColumn (over F.field O.order space.now) gens.now) above.new.items) }
-    ensures monomials { OnOk result (map (λ c. c.at.mono) above.new.items ≡ map (λ c. c.at.mono) above.old.items ++ raised column.now.at.mono) }
+    ensures monomials { OnOk result (map (λ c. c.at.mono) above.new.items
+        ≡ map (λ c. c.at.mono) above.old.items ++ raised column.now.at.mono) }
 {
     for i in 0..reach(&column.at.mono) {
         above.push(times(alloc, space, gens, column, i)?)?;

@@ -22,7 +22,8 @@ fn polynomial<F: Field, O: TermOrder>(
 ) -> Result<Poly<F::Elem>, Memory>
     requires places { All (IsColumnPlace (over F.field O.order space.now)) columns.now }
     requires row { IsRow (F.field space.now.field) (length columns.now) row.now }
-    ensures polynomial { let S = over F.field O.order space.now in IfOk result (IsPolyOf S (λ m. m) (row_polynomial S.field (keys_of columns.now) (vector S.field row.now))) }
+    ensures polynomial { let S = over F.field O.order space.now in
+        IfOk result (IsPolyOf S (λ m. m) (row_polynomial S.field (keys_of columns.now) (vector S.field row.now))) }
 {
     let mut terms = Vec::new(alloc);
     for l in 0..columns.len() {

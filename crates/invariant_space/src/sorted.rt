@@ -25,7 +25,8 @@ fn place<F: Field, O: TermOrder>(
     requires place { IsPlace (over F.field O.order space.now) (at.now.pos, at.now.mono) }
     requires places { All (IsColumnPlace (over F.field O.order space.now)) sorted.now }
     ensures within { IfSome result (λ j. j ≤ length sorted.now) }
-    ensures some { IfSome result (λ j. (c : Column F.Elem) → c.at ≡ at.now → inserted (O.order space.now.order) c sorted.now ≡ insert sorted.now j c) }
+    ensures some { IfSome result (λ j. (c : Column F.Elem) → c.at ≡ at.now
+        → inserted (O.order space.now.order) c sorted.now ≡ insert sorted.now j c) }
     ensures none { IfNone result ((c : Column F.Elem) → c.at ≡ at.now → inserted (O.order space.now.order) c sorted.now ≡ sorted.now) }
 {
     for j in 0..sorted.len() {
@@ -66,7 +67,8 @@ pub(crate) fn sorted<F: Field, O: TermOrder>(
     requires square { All (IsSquare (F.field space.now.field) (length space.now.grading.weights.items)) gens.now }
     requires degree { d ≤ 12288 }
     ensures columns { let S = over F.field O.order space.now in IfOk result (λ cs. All (IsColumn S gens.now) cs.items) }
-    ensures monomials { let S = over F.field O.order space.now in IfOk result (λ cs. IsMonomialList (key_order S) (length S.weights) d (keys_of cs.items)) }
+    ensures monomials { let S = over F.field O.order space.now in
+        IfOk result (λ cs. IsMonomialList (key_order S) (length S.weights) d (keys_of cs.items)) }
 {
     let mut left = level(alloc, space, gens, d)?;
     let mut sorted = Vec::new(alloc);

@@ -126,7 +126,8 @@ fn line_pieces<'a>(status: &'a Status) -> [Piece<'a>; 4]
 /// Writes a piece.
 fn write_piece<E: Sink>(err: &mut E, piece: Piece) -> Result<(), Failed>
     ensures ok { OnOk result (Took (E.taken err.old) (piece_text piece.entry) (E.taken err.new)) }
-    ensures err { OnErr result ((k : ℕ) × (k < length (piece_text piece.entry)) × Took (E.taken err.old) (take k (piece_text piece.entry)) (E.taken err.new)) }
+    ensures err { OnErr result ((k : ℕ) × (k < length (piece_text piece.entry))
+        × Took (E.taken err.old) (take k (piece_text piece.entry)) (E.taken err.new)) }
     ensures cause { IsErr result → Rose (E.faults err.old) (E.faults err.new) }
     ensures later { E.faults err.old ≤ E.faults err.new }
 {
@@ -142,7 +143,8 @@ fn write_piece<E: Sink>(err: &mut E, piece: Piece) -> Result<(), Failed>
 /// Writes the pieces and a newline.
 fn write_line<E: Sink>(err: &mut E, pieces: &[Piece]) -> Result<(), Failed>
     ensures ok { let line = line_of (map piece_text pieces.now) in OnOk result (Took (E.taken err.old) line (E.taken err.new)) }
-    ensures err { let line = line_of (map piece_text pieces.now) in OnErr result ((k : ℕ) × (k ≤ length line) × Took (E.taken err.old) (take k line) (E.taken err.new)) }
+    ensures err { let line = line_of (map piece_text pieces.now) in
+        OnErr result ((k : ℕ) × (k ≤ length line) × Took (E.taken err.old) (take k line) (E.taken err.new)) }
     ensures cause { IsErr result → Rose (E.faults err.old) (E.faults err.new) }
     ensures later { E.faults err.old ≤ E.faults err.new }
 {
@@ -155,7 +157,8 @@ fn write_line<E: Sink>(err: &mut E, pieces: &[Piece]) -> Result<(), Failed>
 /// Writes the line of a status. It takes no memory.
 pub fn write_error<E: Sink>(err: &mut E, status: &Status) -> Result<(), Failed>
     ensures ok { OnOk result (Took (E.taken err.old) (status_line status.now) (E.taken err.new)) }
-    ensures err { OnErr result ((k : ℕ) × (k ≤ length (status_line status.now)) × Took (E.taken err.old) (take k (status_line status.now)) (E.taken err.new)) }
+    ensures err { OnErr result ((k : ℕ) × (k ≤ length (status_line status.now))
+        × Took (E.taken err.old) (take k (status_line status.now)) (E.taken err.new)) }
     ensures cause { IsErr result → Rose (E.faults err.old) (E.faults err.new) }
     ensures later { E.faults err.old ≤ E.faults err.new }
     ensures quiet { status.now ≡ ends.Done → err.new ≡ err.old }

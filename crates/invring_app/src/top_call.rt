@@ -70,8 +70,10 @@ fn work<S: Source, O: Sink>(
     ensures asked { status_after result ≢ Status.Usage }
     ensures idle { ¬ IsReading (reads request.command) → src.new ≡ src.old }
     ensures reading { Reading request (status_after result) (S.left src.old) (S.left src.new) (S.faults src.old) (S.faults src.new) }
-    ensures writing { Writing request (status_after result) (S.left src.old) (S.left src.new) (O.taken out.old) (O.taken out.new) (O.faults out.old) (O.faults out.new) }
-    ensures complete { Completes request (status_after result) (S.left src.old) (S.faults src.old) (S.faults src.new) (O.faults out.old) (O.faults out.new) }
+    ensures writing { Writing request (status_after result) (S.left src.old) (S.left src.new) (O.taken out.old) (O.taken out.new)
+        (O.faults out.old) (O.faults out.new) }
+    ensures complete { Completes request (status_after result) (S.left src.old) (S.faults src.old) (S.faults src.new) (O.faults out.old)
+        (O.faults out.new) }
     ensures silent { ¬ Writes (status_after result) → out.new ≡ out.old }
 {
     let bytes = read_input(alloc, src, input_of(request.command))?;

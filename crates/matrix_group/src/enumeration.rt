@@ -22,7 +22,8 @@ fn put<E: Copy + Eq + Hash>(
     requires max { max + 1 < 2 ^ 64 }
     ensures found { OnOk result (found.new.keys ≡ insert_key (are_same E.PartialEq.eq) found.old.keys new) }
     ensures within { OnOk result (length found.new.keys ≤ max) }
-    ensures bound { (counted : ℕ) → result ≡ Err (GroupBound counted) → (counted ≡ max + 1) × (max < length (insert_key (are_same E.PartialEq.eq) found.old.keys new)) }
+    ensures bound { (counted : ℕ) → result ≡ Err (GroupBound counted)
+        → (counted ≡ max + 1) × (max < length (insert_key (are_same E.PartialEq.eq) found.old.keys new)) }
 {
     found.insert(new)?;
     if found.len() as u64 > max {
@@ -65,7 +66,8 @@ pub fn enumerate<F: Field>(
     ensures walk { IfOk result (λ g. IsWalk (F.field field.now) (size gens.now) (cells_of gens.now) (cells_of g)) }
     ensures group { IfOk result (λ g. IsGroup (F.field field.now) (size gens.now) (cells_of g)) }
     ensures within { IfOk result (λ g. length g ≤ max) }
-    ensures bound { (counted : ℕ) → result ≡ Err (GroupBound counted) → (counted ≡ max + 1) × IsOverOrder (F.field field.now) (size gens.now) (cells_of gens.now) max }
+    ensures bound { (counted : ℕ) → result ≡ Err (GroupBound counted)
+        → (counted ≡ max + 1) × IsOverOrder (F.field field.now) (size gens.now) (cells_of gens.now) max }
 {
     let one = identity(alloc, field, gens[0].rows)?;
     let mut found = IndexSet::new(alloc);

@@ -18,8 +18,10 @@ pub fn degree<F: Field, O: TermOrder, M: Monomial>(
     requires small { let S = over F.field O.order space.now in IsUpTo S (2 ^ 64 - 1) (vector_of S M.exps a.now) }
     ensures none { let S = over F.field O.order space.now in IsNone result ↔ (vector_of S M.exps a.now ≡ zero_vector S.field) }
     ensures degree { let S = over F.field O.order space.now in IfSome result (IsDegree S (vector_of S M.exps a.now)) }
-    ensures reached { let S = over F.field O.order space.now in IfSome result (λ d. Any (λ e. degree S (key e.0) ≡ d) (entries M.exps a.now)) }
-    ensures greatest { let S = over F.field O.order space.now in IfSome result (λ d. All (λ e. degree S (key e.0) ≤ d) (entries M.exps a.now)) }
+    ensures reached { let S = over F.field O.order space.now in
+        IfSome result (λ d. Any (λ e. degree S (key e.0) ≡ d) (entries M.exps a.now)) }
+    ensures greatest { let S = over F.field O.order space.now in
+        IfSome result (λ d. All (λ e. degree S (key e.0) ≤ d) (entries M.exps a.now)) }
 {
     let terms = a.terms();
     let mut greatest: Option<u64> = None;
@@ -39,7 +41,8 @@ pub fn is_homogeneous<F: Field, O: TermOrder, M: Monomial>(
     requires vector { IsVector (over F.field O.order space.now) M.exps a.now }
     ensures homogeneous { let S = over F.field O.order space.now in
         IsTrue result ↔ ((d : ℕ) × IsHomogeneous S d (vector_of S M.exps a.now)) }
-    ensures terms { let S = over F.field O.order space.now in IsTrue result ↔ ((d : ℕ) × All (λ e. degree S (key e.0) ≡ d) (entries M.exps a.now)) }
+    ensures terms { let S = over F.field O.order space.now in
+        IsTrue result ↔ ((d : ℕ) × All (λ e. degree S (key e.0) ≡ d) (entries M.exps a.now)) }
 {
     let terms = a.terms();
     if terms.is_empty() {

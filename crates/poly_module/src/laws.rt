@@ -34,7 +34,8 @@ pub fn vector_products<F: Field>(_field: &F)
     ensures one { let k = F.field _field.now in (u : Vect k) → product k u (one_vector k) ≡ u }
     ensures sum { let k = F.field _field.now in (u v w : Vect k) → product k u (plus k v w) ≡ plus k (product k u v) (product k u w) }
     ensures multiple { let k = F.field _field.now in (c : F.Elem) (u v : Vect k) → product k u (scale k c v) ≡ scale k c (product k u v) }
-    ensures single { let k = F.field _field.now in (s t : Key) → product k (single_vector k s) (single_vector k t) ≡ single_vector k (keys.◌·◌ s t) }
+    ensures single { let k = F.field _field.now in
+        (s t : Key) → product k (single_vector k s) (single_vector k t) ≡ single_vector k (keys.◌·◌ s t) }
     ensures monomial { let k = F.field _field.now in (m : Mon) (v : Vect k) → shift k m v ≡ product k (single_vector k (0, m)) v }
     ensures ring { let k = F.field _field.now in (u v : Vect k) → (vector_ring k).◌*◌ u v ≡ product k u v }
     ensures difference { let k = F.field _field.now in (u v : Vect k) → plus k (minus k u v) v ≡ u }
@@ -112,7 +113,8 @@ pub fn form_degrees<F: Field>(_field: &F)
 pub fn module_elements<F: Field, O: TermOrder>(_space: &Space<F, O>)
     ensures subspace { let k = F.field _space.now.field in (g : ℕ → Vect k) → IsSubspace k (InModule k g) }
     ensures member { let k = F.field _space.now.field in (g : ℕ → Vect k) (i : ℕ) → InModule k g (g i) }
-    ensures product { let k = F.field _space.now.field in (g : ℕ → Vect k) (f v : Vect k) → IsPolynomial k f → InModule k g v → InModule k g (product k f v) }
+    ensures product { let k = F.field _space.now.field in
+        (g : ℕ → Vect k) (f v : Vect k) → IsPolynomial k f → InModule k g v → InModule k g (product k f v) }
     ensures summands { let k = F.field _space.now.field in (g : ℕ → Vect k) (v : Vect k) → InModule k g v
         → (l : List (Scalar k × Mon × ℕ)) × (summands k g l ≡ v) }
     ensures part { let S = over F.field O.order _space.now in (g : ℕ → Vect S.field) (d : ℕ → ℕ)
@@ -179,7 +181,8 @@ pub fn combinations<F: Field>(_field: &F)
     ensures product { let k = F.field _field.now in (θ S : List (Vect k)) (a c : Vect k) → IsPolynomial k a
         → combination_value k θ S (product k a c) ≡ product k (substitute k θ a) (combination_value k θ S c) }
     ensures degree { let k = F.field _field.now in (ws ds es : List ℕ) (θ S : List (Vect k)) → AreForms k ws ds θ → AreForms k ws es S
-        → (d : ℕ) (c : Vect k) → IsGraded k (combination_degree ds es) d c → InVariables k (length θ) c → IsForm k ws d (combination_value k θ S c) }
+        → (d : ℕ) (c : Vect k) → IsGraded k (combination_degree ds es) d c → InVariables k (length θ) c
+        → IsForm k ws d (combination_value k θ S c) }
     ensures subspace { let k = F.field _field.now in (θ S : List (Vect k)) → IsSubspace k (Over k θ S) }
     ensures multiple { let k = F.field _field.now in (θ S : List (Vect k)) (a f : Vect k) → IsPolynomial k a → InVariables k (length θ) a
         → Over k θ S f → Over k θ S (product k (substitute k θ a) f) }

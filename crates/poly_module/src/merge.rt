@@ -56,7 +56,8 @@ fn merged<F: Field, O: TermOrder, M: Monomial>(
     requires right { IsVector (over F.field O.order space.now) M.exps b.now }
     ensures fits { IfOk result (IsVector (over F.field O.order space.now) M.exps) }
     ensures sum { let S = over F.field O.order space.now in let x = M.exps in
-        IfOk result (λ v. vector_of S x v ≡ plus S.field (vector_of S x a.now) (vec S.field (signed_entries S.field sign (entries x b.now)))) }
+        IfOk result (λ v. vector_of S x v
+        ≡ plus S.field (vector_of S x a.now) (vec S.field (signed_entries S.field sign (entries x b.now)))) }
 {
     let xs = a.terms();
     let ys = b.terms();

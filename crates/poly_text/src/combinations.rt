@@ -56,7 +56,9 @@ fn primaries(alloc: Global, n: u64) -> Names
 fn places_by_position(alloc: Global, terms: &[Term<u16, Mono>]) -> Result<Vec<(u64, usize)>, Memory>
     ensures within { IfOk result (λ v. All (λ q. q.1 < length terms.now) v.items) }
     ensures same { IfOk result (λ v. length v.items ≡ length terms.now) }
-    ensures order { let es = entries (λ m. m) terms.now in (n : ℕ) → All (λ e. e.0.0 < n) es → (d : Entry ℕ) → IfOk result (λ v. map (λ (q : ℕ × ℕ). get_or es q.1 d) v.items ≡ by_position n es) }
+    ensures order { let es = entries (λ m. m) terms.now in
+        (n : ℕ) → All (λ e. e.0.0 < n) es → (d : Entry ℕ)
+        → IfOk result (λ v. map (λ (q : ℕ × ℕ). get_or es q.1 d) v.items ≡ by_position n es) }
 {
     let mut places = Vec::new(alloc);
     for i in 0..terms.len() {

@@ -129,7 +129,8 @@ fn push_factor(
     exponent: u32,
 ) -> Result<(), Memory>
     requires small { i + 1 < 2 ^ 64 }
-    ensures is { let f : Factor = record { variable = variable_at names.now i; exponent = exponent } in IfOk result (λ _. text.new.items ≡ text.old.items ++ (star is_begun ++ factor_text f)) }
+    ensures is { let f : Factor = record { variable = variable_at names.now i; exponent = exponent } in
+        IfOk result (λ _. text.new.items ≡ text.old.items ++ (star is_begun ++ factor_text f)) }
 {
     if is_begun {
         text.push(b'*')?;

@@ -129,7 +129,8 @@ impl<'a> Scanner<'a> {
     #[tactic(auto, unfolding(crate::specs::Scanning::factor_start))]
     fn factor_start(&mut self, text: &[u8], place: usize) -> Result<(), ScanError>
         requires within { place < length text.now }
-        ensures is { Scans result (state_of text.now (place + 1) self.new) (factor_start (state_of text.now place self.old) (slice_index text.now place)) }
+        ensures is { Scans result (state_of text.now (place + 1) self.new) (factor_start (state_of text.now place self.old)
+            (slice_index text.now place)) }
         ensures ordered { OnOk result (IsOrdered (place + 1) self.new) }
     {
         let byte = text[place];
@@ -147,7 +148,8 @@ impl<'a> Scanner<'a> {
     #[tactic(auto, unfolding(crate::specs::Scanning::term_start))]
     fn term_start(&mut self, text: &[u8], place: usize) -> Result<(), ScanError>
         requires within { place < length text.now }
-        ensures is { Scans result (state_of text.now (place + 1) self.new) (term_start (state_of text.now place self.old) (slice_index text.now place)) }
+        ensures is { Scans result (state_of text.now (place + 1) self.new) (term_start (state_of text.now place self.old)
+            (slice_index text.now place)) }
         ensures ordered { OnOk result (IsOrdered (place + 1) self.new) }
     {
         let byte = text[place];
@@ -180,7 +182,8 @@ impl<'a> Scanner<'a> {
     #[tactic(auto, unfolding(crate::specs::Scanning::next_term))]
     fn next_term(&mut self, alloc: Global, text: &[u8], place: usize) -> Result<(), ScanError>
         requires within { place < length text.now }
-        ensures is { Scans result (state_of text.now (place + 1) self.new) (next_term (state_of text.now place self.old) (slice_index text.now place)) }
+        ensures is { Scans result (state_of text.now (place + 1) self.new) (next_term (state_of text.now place self.old)
+            (slice_index text.now place)) }
         ensures ordered { OnOk result (IsOrdered (place + 1) self.new) }
     {
         let byte = text[place];
@@ -203,7 +206,8 @@ impl<'a> Scanner<'a> {
         place: usize,
     ) -> Result<(), ScanError>
         requires within { place < length text.now }
-        ensures is { Scans result (state_of text.now (place + 1) self.new) (after_factor (with_factor (state_of text.now place self.old) (variable_of variable.entry) exponent) (slice_index text.now place)) }
+        ensures is { Scans result (state_of text.now (place + 1) self.new) (after_factor (with_factor (state_of text.now place self.old)
+            (variable_of variable.entry) exponent) (slice_index text.now place)) }
         ensures ordered { OnOk result (IsOrdered (place + 1) self.new) }
     {
         self.factors.push(FactorText { variable, exponent })?;
@@ -224,7 +228,8 @@ impl<'a> Scanner<'a> {
         place: usize,
     ) -> Result<(), ScanError>
         requires within { place < length text.now }
-        ensures is { Scans result (state_of text.now (place + 1) self.new) (after_variable (state_of text.now place self.old) (variable_of variable.entry) (slice_index text.now place)) }
+        ensures is { Scans result (state_of text.now (place + 1) self.new) (after_variable (state_of text.now place self.old)
+            (variable_of variable.entry) (slice_index text.now place)) }
         ensures ordered { OnOk result (IsOrdered (place + 1) self.new) }
     {
         if text[place] == b'^' {
@@ -239,7 +244,8 @@ impl<'a> Scanner<'a> {
     fn in_coefficient(&mut self, alloc: Global, text: &[u8], place: usize) -> Result<(), ScanError>
         requires within { place < length text.now }
         requires stage { self.old.stage ≡ stages.Coefficient }
-        ensures is { Scans result (state_of text.now (place + 1) self.new) (in_coefficient (state_of text.now place self.old) (slice_index text.now place)) }
+        ensures is { Scans result (state_of text.now (place + 1) self.new) (in_coefficient (state_of text.now place self.old)
+            (slice_index text.now place)) }
         ensures ordered { OnOk result (IsOrdered (place + 1) self.new) }
     {
         let byte = text[place];
@@ -269,7 +275,8 @@ impl<'a> Scanner<'a> {
         requires within { place < length text.now }
         requires begins { start < place }
         requires stage { self.old.stage ≡ stages.Name start }
-        ensures is { Scans result (state_of text.now (place + 1) self.new) (in_name (take (place - start) (drop start text.now)) (state_of text.now place self.old) (slice_index text.now place)) }
+        ensures is { Scans result (state_of text.now (place + 1) self.new) (in_name (take (place - start) (drop start text.now))
+            (state_of text.now place self.old) (slice_index text.now place)) }
         ensures ordered { OnOk result (IsOrdered (place + 1) self.new) }
     {
         if is_name_byte(text[place]) {
@@ -293,7 +300,8 @@ impl<'a> Scanner<'a> {
         place: usize,
     ) -> Result<(), ScanError>
         requires within { place < length text.now }
-        ensures is { Scans result (state_of text.now (place + 1) self.new) (in_index mark index (state_of text.now place self.old) (slice_index text.now place)) }
+        ensures is { Scans result (state_of text.now (place + 1) self.new) (in_index mark index (state_of text.now place self.old)
+            (slice_index text.now place)) }
         ensures ordered { OnOk result (IsOrdered (place + 1) self.new) }
     {
         let byte = text[place];
@@ -315,7 +323,8 @@ impl<'a> Scanner<'a> {
         place: usize,
     ) -> Result<(), ScanError>
         requires within { place < length text.now }
-        ensures is { Scans result (state_of text.now (place + 1) self.new) (in_exponent (variable_of variable.entry) exponent (state_of text.now place self.old) (slice_index text.now place)) }
+        ensures is { Scans result (state_of text.now (place + 1) self.new) (in_exponent (variable_of variable.entry) exponent
+            (state_of text.now place self.old) (slice_index text.now place)) }
         ensures ordered { OnOk result (IsOrdered (place + 1) self.new) }
     {
         let byte = text[place];
@@ -333,7 +342,8 @@ impl<'a> Scanner<'a> {
     #[tactic(auto, unfolding(crate::specs::Scanning::in_start))]
     fn in_start(&mut self, text: &[u8], place: usize) -> Result<(), ScanError>
         requires within { place < length text.now }
-        ensures is { Scans result (state_of text.now (place + 1) self.new) (in_start (state_of text.now place self.old) (slice_index text.now place)) }
+        ensures is { Scans result (state_of text.now (place + 1) self.new) (in_start (state_of text.now place self.old)
+            (slice_index text.now place)) }
         ensures ordered { OnOk result (IsOrdered (place + 1) self.new) }
     {
         let byte = text[place];
@@ -358,7 +368,8 @@ impl<'a> Scanner<'a> {
     ) -> Result<(), ScanError>
         requires within { place < length text.now }
         requires ordered { IsOrdered place self.old }
-        ensures is { Scans result (state_of text.now (place + 1) self.new) (step (state_of text.now place self.old) (slice_index text.now place)) }
+        ensures is { Scans result (state_of text.now (place + 1) self.new) (step (state_of text.now place self.old)
+            (slice_index text.now place)) }
         ensures ordered { OnOk result (IsOrdered (place + 1) self.new) }
     {
         match self.stage {
@@ -422,7 +433,8 @@ impl<'a> Scanner<'a> {
         variable: VariableText<'a>,
         exponent: u32,
     ) -> Result<Vec<TermText<'a>>, Memory>
-        ensures is { IfOk result (λ ts. (text : List ℕ) (i : ℕ) → (closed (with_factor (state_of text i self.entry) (variable_of variable.entry) exponent) false).terms ≡ terms_of ts.items) }
+        ensures is { IfOk result (λ ts. (text : List ℕ) (i : ℕ)
+            → (closed (with_factor (state_of text i self.entry) (variable_of variable.entry) exponent) false).terms ≡ terms_of ts.items) }
     {
         self.factors.push(FactorText { variable, exponent })?;
         self.close(alloc, false)?;

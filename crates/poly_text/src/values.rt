@@ -133,7 +133,8 @@ fn next_term<O: TermOrder>(
     requires before { let S = over (⟦<PrimeField as Field>⟧.field) O.order space.now in Fits S (entries (λ m. m) before.now) }
     requires term { IsTerm (term_of text.now) }
     ensures fault { let S = over (⟦<PrimeField as Field>⟧.field) O.order space.now in
-        Faults result (fault_or (length before.now + 1) (first_failed (conditions S names.now (last_place (entries (λ m. m) before.now)) (term_of text.now))) None) }
+        Faults result (fault_or (length before.now + 1) (first_failed (conditions S names.now (last_place (entries (λ m. m) before.now))
+        (term_of text.now))) None) }
     ensures is { let S = over (⟦<PrimeField as Field>⟧.field) O.order space.now in
         IfOk result (λ t. entry (λ m. m) t ≡ entry_of S names.now (term_of text.now)) }
     ensures fits { let S = over (⟦<PrimeField as Field>⟧.field) O.order space.now in
