@@ -1,5 +1,5 @@
 -- A problem has one text of its basis of a degree, and one order of its group.
-use Rattle.std.proofs.Common.{◌≡◌, ℕ, ◌<◌, List, [], ◌∷◌, ◌++◌, length, map, All, refl, sym, ap, ap₂, subst, ◌∙◌}
+use Rattle.std.proofs.Common.{◌≡◌, ℕ, ◌<◌, List, [], ◌∷◌, length, map, All, refl, sym, ap, ap₂, subst, ◌∙◌}
 use Rattle.std.specs.Prelude.{slice_index_or}
 use Rattle.std.proofs.lemmas.List.Elements.{All-nil, All-cons, All-head, All-tail}
 use Rattle.alg_core.proofs.FittingLists.{fits_unique}
@@ -16,8 +16,6 @@ use Rattle.lin_algebra.specs.declared.matrix.Matrix.{Matrix}
 use Rattle.matrix_group.specs.Actions.{act, act_by}
 use Rattle.matrix_group.specs.Groups.{IsOrder}
 use Rattle.matrix_group.proofs.OrderLaws.{order_unique, over_order}
-use Rattle.poly_text.specs.Syntax.{Variable, Term, spelling}
-use Rattle.poly_text.specs.Texts.{is_negative, absolute, factors_from, variable_at}
 use Rattle.poly_text.specs.declared.names.Names.{Names}
 use Rattle.invariant_space.specs.InvariantSpaces.{IsInvariantForm, IsEchelonBasis}
 use Rattle.invariant_space.proofs.EchelonBasis.{echelon_basis_unique}
@@ -88,19 +86,9 @@ same-members S (x ∷ xs) (y ∷ ys) fit fit' e =
     let rest : map (vec S.field) xs ≡ map (vec S.field) ys = cc in
     ap₂ ◌∷◌ (fits_unique S x y (All-head (Fits S) x xs fit) (All-head (Fits S) y ys fit') first) (same-members S xs ys (All-tail (Fits S) x xs fit) (All-tail (Fits S) y ys fit') rest)
 
--- names of the same variables print the same text
-same-names : (S : SpaceOver ℕ) (names other : Names) (es : List (List (Entry ℕ))) → variable_at names ≡ variable_at other → lines S names es ≡ lines S other es
-same-names S names other [] e = refl
-same-names S names other (f ∷ es) e =
-    ap₂ (λ (t u : List ℕ). (t ++ 10 ∷ []) ++ u)
-    (ap (λ (v : ℕ → Variable). spelling (map {B = Term} (λ (x : Entry ℕ). record { is_negative = is_negative S.field.characteristic x.1; coefficient = absolute S.field.characteristic x.1; factors = factors_from v 0 x.0.1 }) f)) e)
-    (same-names S names other es e)
-
-variable-one : (q : Problem) (names other : Names) → AreNamesOf q names → AreNamesOf q other → (i : ℕ) → variable_at names i ≡ variable_at other i
-variable-one q names other h g i =
-    let vars : names.vars ≡ other.vars = h.vars ∙ sym g.vars in
-    let primaries : names.primaries ≡ other.primaries = h.primaries ∙ sym g.primaries in
-    cc
+-- a problem has one list of names
+names-one : (q : Problem) (names other : Names) → AreNamesOf q names → AreNamesOf q other → names ≡ other
+names-one q names other h g = λ i. record { vars = (h.vars ∙ sym g.vars) i; primaries = (h.primaries ∙ sym g.primaries) i; irreducibles = (h.irreducibles ∙ sym g.irreducibles) i }
 
 record AtSpace (q : Problem) (d : ℕ) (text : List ℕ) (S : SpaceOver ℕ) : Type 0 where
   matrices : List (Matrix ℕ)
@@ -119,7 +107,7 @@ text-at : (q : Problem) (d : ℕ) (text other : List ℕ) (S : SpaceOver ℕ) �
 text-at q d text other S h g =
     let shapes : map shape g.matrices ≡ map shape h.matrices = g.are_matrices ∙ sym h.are_matrices in
     let vectors = echelon_basis_unique S h.matrices d _ _ h.echelon (same-basis S d g.matrices h.matrices _ shapes g.echelon) in
-    h.is_text ∙ ap (lines S h.names) (same-members S h.basis g.basis h.fit g.fit vectors) ∙ same-names S h.names g.names g.basis (λ j. λ i. variable-one q h.names g.names h.are_names g.are_names i j) ∙ sym g.is_text
+    h.is_text ∙ ap (lines S h.names) (same-members S h.basis g.basis h.fit g.fit vectors) ∙ ap (λ (n : Names). lines S n g.basis) (names-one q h.names g.names h.are_names g.are_names) ∙ sym g.is_text
 
 pub basis-text-one : (q : Problem) (d : ℕ) (text other : List ℕ) → IsBasisText q d text → IsBasisText q d other → text ≡ other
 basis-text-one q d text other h g =

@@ -1,4 +1,4 @@
-use Rattle.std.proofs.Common.{◌≡◌, ℕ, List, sym, subst, ◌∙◌}
+use Rattle.std.proofs.Common.{ℕ, List, sym, subst, ◌∙◌}
 use Rattle.alg_core.specs.DpOrder.{dp_order}
 use Rattle.alg_core.specs.Spaces.{over, entries}
 use Rattle.poly_module.specs.SpaceVectors.{IsPoly}
