@@ -72,7 +72,8 @@ impl<'a> Scanner<'a> {
     #[tactic(auto, unfolding(crate::specs::Scanning::between))]
     fn between(&mut self, alloc: Global, text: &[u8], place: usize) -> Result<(), ScanError>
         requires within { place < length text.now }
-        ensures is { Takes result (scan_of text.now (place + 1) self.new) (between (state_of self.old.parser) (slice_index text.now place)) }
+        ensures is { Takes result (scan_of text.now (place + 1) self.new)
+            (between (state_of self.old.parser) (slice_index text.now place)) }
         ensures ordered { OnOk result (IsOrdered (place + 1) self.new) }
     {
         let byte = text[place];
@@ -100,7 +101,8 @@ impl<'a> Scanner<'a> {
 
     /// Opens a string, whose bytes begin at the place.
     fn open_text(&mut self, place: usize) -> Result<(), ScanError>
-        ensures is { (text : List ℕ) → Takes result (scan_of text place self.new) (if takes_text (state_of self.old.parser) then Some (at (state_of self.old.parser) (InText [])) else None) }
+        ensures is { (text : List ℕ) → Takes result (scan_of text place self.new)
+            (if takes_text (state_of self.old.parser) then Some (at (state_of self.old.parser) (InText [])) else None) }
         ensures ordered { OnOk result (IsOrdered place self.new) }
     {
         if !self.parser.takes_text() {
@@ -113,7 +115,8 @@ impl<'a> Scanner<'a> {
     /// Opens a word.
     fn open_word(&mut self, text: &[u8], place: usize) -> Result<(), ScanError>
         requires within { place < length text.now }
-        ensures is { let word = slice_index text.now place ∷ [] in Takes result (scan_of text.now (place + 1) self.new) (if word_front (state_of self.old.parser) word then Some (at (state_of self.old.parser) (InWord word)) else None) }
+        ensures is { let word = slice_index text.now place ∷ [] in Takes result (scan_of text.now (place + 1) self.new)
+            (if word_front (state_of self.old.parser) word then Some (at (state_of self.old.parser) (InWord word)) else None) }
         ensures ordered { OnOk result (IsOrdered (place + 1) self.new) }
     {
         if !self.parser.word_front(&text[place..place + 1]) {
@@ -125,7 +128,10 @@ impl<'a> Scanner<'a> {
 
     /// Opens a number, whose first digit stands at the place.
     fn open_number(&mut self, place: usize) -> Result<(), ScanError>
-        ensures is { (text : List ℕ) → place < length text → Takes result (scan_of text (place + 1) self.new) (if takes_number (state_of self.old.parser) then Some (at (state_of self.old.parser) (InNumber (slice_index text place ∷ []))) else None) }
+        ensures is { (text : List ℕ) → place < length text →
+            Takes result (scan_of text (place + 1) self.new)
+            (if takes_number (state_of self.old.parser)
+            then Some (at (state_of self.old.parser) (InNumber (slice_index text place ∷ []))) else None) }
         ensures ordered { OnOk result (IsOrdered (place + 1) self.new) }
     {
         if !self.parser.takes_number() {
@@ -161,7 +167,8 @@ impl<'a> Scanner<'a> {
         requires within { place < length text.now }
         requires begins { start < place }
         requires mode { self.old.mode ≡ modes.Word start }
-        ensures is { Takes result (scan_of text.now (place + 1) self.new) (in_word (take (place - start) (drop start text.now)) (state_of self.old.parser) (slice_index text.now place)) }
+        ensures is { Takes result (scan_of text.now (place + 1) self.new)
+            (in_word (take (place - start) (drop start text.now)) (state_of self.old.parser) (slice_index text.now place)) }
         ensures ordered { OnOk result (IsOrdered (place + 1) self.new) }
     {
         if is_name_byte(text[place]) {
@@ -186,7 +193,8 @@ impl<'a> Scanner<'a> {
         requires within { place < length text.now }
         requires begins { start < place }
         requires mode { self.old.mode ≡ modes.Number start }
-        ensures is { Takes result (scan_of text.now (place + 1) self.new) (in_number (take (place - start) (drop start text.now)) (state_of self.old.parser) (slice_index text.now place)) }
+        ensures is { Takes result (scan_of text.now (place + 1) self.new)
+            (in_number (take (place - start) (drop start text.now)) (state_of self.old.parser) (slice_index text.now place)) }
         ensures ordered { OnOk result (IsOrdered (place + 1) self.new) }
     {
         let byte = text[place];
@@ -206,7 +214,8 @@ impl<'a> Scanner<'a> {
         requires within { place < length text.now }
         requires begins { start ≤ place }
         requires mode { self.old.mode ≡ modes.Text start }
-        ensures is { Takes result (scan_of text.now (place + 1) self.new) (in_text (take (place - start) (drop start text.now)) (state_of self.old.parser) (slice_index text.now place)) }
+        ensures is { Takes result (scan_of text.now (place + 1) self.new)
+            (in_text (take (place - start) (drop start text.now)) (state_of self.old.parser) (slice_index text.now place)) }
         ensures ordered { OnOk result (IsOrdered (place + 1) self.new) }
     {
         let byte = text[place];
@@ -231,7 +240,8 @@ impl<'a> Scanner<'a> {
     ) -> Result<(), ScanError>
         requires within { place < length text.now }
         requires ordered { IsOrdered place self.old }
-        ensures is { Takes result (scan_of text.now (place + 1) self.new) (step (scan_of text.now place self.old) (slice_index text.now place)) }
+        ensures is { Takes result (scan_of text.now (place + 1) self.new)
+            (step (scan_of text.now place self.old) (slice_index text.now place)) }
         ensures ordered { OnOk result (IsOrdered (place + 1) self.new) }
     {
         let byte = text[place];

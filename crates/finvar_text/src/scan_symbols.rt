@@ -24,7 +24,8 @@ impl<'a> Parser<'a> {
         opening: OpeningPosition,
         byte: u8,
     ) -> Result<(), ScanError>
-        ensures is { Takes result (state_of self.new) (opening_symbol (bytes_of self.old.script.libs.items) (opening_of self.old opening) byte) }
+        ensures is { Takes result (state_of self.new)
+            (opening_symbol (bytes_of self.old.script.libs.items) (opening_of self.old opening) byte) }
     {
         let next = match opening {
             OpeningPosition::LibEnd => {
@@ -60,7 +61,8 @@ impl<'a> Parser<'a> {
     /// Takes the symbol after a variable in parentheses.
     #[tactic(auto, unfolding(crate::specs::Grammar::opening_symbol))]
     fn after_variable(&mut self, byte: u8) -> Result<(), ScanError>
-        ensures is { Takes result (state_of self.new) (opening_symbol (bytes_of self.old.script.libs.items) (opening_of self.old openings.VariableEnd) byte) }
+        ensures is { Takes result (state_of self.new)
+            (opening_symbol (bytes_of self.old.script.libs.items) (opening_of self.old openings.VariableEnd) byte) }
     {
         if byte == b',' {
             self.position = Position::Opening(OpeningPosition::Variable);
@@ -75,7 +77,8 @@ impl<'a> Parser<'a> {
     /// Takes the symbol after the ring.
     #[tactic(auto, unfolding(crate::specs::Grammar::opening_symbol))]
     fn end_ring(&mut self, alloc: Global, byte: u8) -> Result<(), ScanError>
-        ensures is { Takes result (state_of self.new) (opening_symbol (bytes_of self.old.script.libs.items) (opening_of self.old openings.RingEnd) byte) }
+        ensures is { Takes result (state_of self.new)
+            (opening_symbol (bytes_of self.old.script.libs.items) (opening_of self.old openings.RingEnd) byte) }
     {
         expect_symbol(byte, b';')?;
         self.script.items = Vec::new(alloc);
@@ -92,7 +95,8 @@ impl<'a> Parser<'a> {
         matrix: MatrixPosition,
         byte: u8,
     ) -> Result<(), ScanError>
-        ensures is { Takes result (state_of self.new) (matrix_symbol (script_of self.old.script) self.old.has_call (matrix_of self.old matrix) byte) }
+        ensures is { Takes result (state_of self.new)
+            (matrix_symbol (script_of self.old.script) self.old.has_call (matrix_of self.old matrix) byte) }
     {
         let next = match matrix {
             MatrixPosition::RowsEnd => {
@@ -126,7 +130,13 @@ impl<'a> Parser<'a> {
 
     /// Takes the symbol after the last entry.
     fn end_matrix(&mut self, alloc: Global, byte: u8) -> Result<(), ScanError>
-        ensures is { Takes result (state_of self.new) (symbol 59 byte (After (with_item (script_of self.old.script) (Declared (record { name = self.old.name.now; rows = self.old.rows.now; cols = self.old.cols.now; entries = entries_of self.old.entries.items }))) self.old.has_call Items)) }
+        ensures is { Takes result (state_of self.new)
+            (symbol 59 byte (After (with_item (script_of self.old.script) (Declared (record {
+              name = self.old.name.now;
+              rows = self.old.rows.now;
+              cols = self.old.cols.now;
+              entries = entries_of self.old.entries.items;
+            }))) self.old.has_call Items)) }
     {
         expect_symbol(byte, b';')?;
         let entries = mem::replace(&mut self.entries, Vec::new(alloc));
@@ -143,7 +153,8 @@ impl<'a> Parser<'a> {
     /// Takes a symbol in a call.
     #[tactic(auto, unfolding(crate::specs::Grammar::call_symbol))]
     fn call_symbol(&mut self, alloc: Global, call: CallPosition, byte: u8) -> Result<(), ScanError>
-        ensures is { Takes result (state_of self.new) (call_symbol (script_of self.old.script) self.old.has_call (call_of self.old call) byte) }
+        ensures is { Takes result (state_of self.new)
+            (call_symbol (script_of self.old.script) self.old.has_call (call_of self.old call) byte) }
     {
         let next = match call {
             CallPosition::SecondEnd => {
@@ -173,7 +184,13 @@ impl<'a> Parser<'a> {
 
     /// Takes the symbol after a call.
     fn end_call(&mut self, alloc: Global, byte: u8) -> Result<(), ScanError>
-        ensures is { Takes result (state_of self.new) (symbol 59 byte (After (with_item (script_of self.old.script) (Called (record { first = self.old.name.now; second = self.old.second.now; third = self.old.third.now; arguments = bytes_of self.old.arguments.items }))) true Items)) }
+        ensures is { Takes result (state_of self.new)
+            (symbol 59 byte (After (with_item (script_of self.old.script) (Called (record {
+              first = self.old.name.now;
+              second = self.old.second.now;
+              third = self.old.third.now;
+              arguments = bytes_of self.old.arguments.items;
+            }))) true Items)) }
     {
         expect_symbol(byte, b';')?;
         let arguments = mem::replace(&mut self.arguments, Vec::new(alloc));
@@ -191,7 +208,8 @@ impl<'a> Parser<'a> {
     /// Takes a symbol in a print.
     #[tactic(auto, unfolding(crate::specs::Grammar::print_symbol))]
     fn print_symbol(&mut self, print: PrintPosition, byte: u8) -> Result<(), ScanError>
-        ensures is { Takes result (state_of self.new) (print_symbol (script_of self.old.script) self.old.has_call (print_of self.old print) byte) }
+        ensures is { Takes result (state_of self.new)
+            (print_symbol (script_of self.old.script) self.old.has_call (print_of self.old print) byte) }
     {
         let next = match print {
             PrintPosition::Open => {
@@ -220,7 +238,8 @@ impl<'a> Parser<'a> {
     /// Takes the symbol after the name of a matrix or of a call's first result.
     #[tactic(auto, unfolding(crate::specs::Grammar::body_symbol))]
     fn after_name(&mut self, byte: u8) -> Result<(), ScanError>
-        ensures is { Takes result (state_of self.new) (body_symbol (script_of self.old.script) self.old.has_call (MatrixNamed self.old.name.now) byte) }
+        ensures is { Takes result (state_of self.new)
+            (body_symbol (script_of self.old.script) self.old.has_call (MatrixNamed self.old.name.now) byte) }
     {
         if byte == b'[' {
             self.position = Position::Matrix(MatrixPosition::Rows);

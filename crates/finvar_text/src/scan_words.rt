@@ -20,7 +20,8 @@ impl<'a> Parser<'a> {
         opening: OpeningPosition,
         word: &'a [u8],
     ) -> Result<(), ScanError>
-        ensures is { Takes result (state_of self.new) (opening_word (bytes_of self.old.script.libs.items) (opening_of self.old opening) word.now) }
+        ensures is { Takes result (state_of self.new)
+            (opening_word (bytes_of self.old.script.libs.items) (opening_of self.old opening) word.now) }
     {
         let next = match opening {
             OpeningPosition::Libs if word == b"LIB".as_slice() => OpeningPosition::LibText,
@@ -81,7 +82,8 @@ impl<'a> Parser<'a> {
     /// Takes a word in a call.
     #[tactic(auto, unfolding(crate::specs::Grammar::call_word))]
     fn call_word(&mut self, call: CallPosition, word: &'a [u8]) -> Result<(), ScanError>
-        ensures is { Takes result (state_of self.new) (call_word (script_of self.old.script) self.old.has_call (call_of self.old call) word.now) }
+        ensures is { Takes result (state_of self.new)
+            (call_word (script_of self.old.script) self.old.has_call (call_of self.old call) word.now) }
     {
         let next = match call {
             CallPosition::Second => {
@@ -137,7 +139,8 @@ impl<'a> Parser<'a> {
     /// Takes a number in a matrix.
     #[tactic(auto, unfolding(crate::specs::Grammar::matrix_number))]
     fn matrix_number(&mut self, matrix: MatrixPosition, digits: &'a [u8]) -> Result<(), ScanError>
-        ensures is { Takes result (state_of self.new) (matrix_number (script_of self.old.script) self.old.has_call (matrix_of self.old matrix) digits.now) }
+        ensures is { Takes result (state_of self.new)
+            (matrix_number (script_of self.old.script) self.old.has_call (matrix_of self.old matrix) digits.now) }
     {
         let next = match matrix {
             MatrixPosition::Rows => {

@@ -33,10 +33,14 @@ fn gens_over(
 ) -> Result<Vec<Matrix<u16>>, ScriptFault>
     requires script { IsScript (script_of script.now) }
     requires sizes { let s = script_of script.now in first_misfit (length s.variables) (matrices s) ≡ None }
-    ensures gens { let s = script_of script.now in let p = (⟦<PrimeField as Field>⟧.field field.now).characteristic in IfOk result (λ gs. map sized_cells gs.items ≡ map (generator p (length s.variables)) (generators s)) }
-    ensures invertible { let p = (⟦<PrimeField as Field>⟧.field field.now).characteristic in IfOk result (λ gs. All (IsInvertible p) gs.items) }
-    ensures none { let s = script_of script.now in let p = (⟦<PrimeField as Field>⟧.field field.now).characteristic in IfOk result (λ gs. FirstSingular p (length s.variables) (generators s) None) }
-    ensures fault { let s = script_of script.now in let p = (⟦<PrimeField as Field>⟧.field field.now).characteristic in IfErr result (IsSingularFault p (length s.variables) (generators s)) }
+    ensures gens { let s = script_of script.now in let p = (⟦<PrimeField as Field>⟧.field field.now).characteristic in
+        IfOk result (λ gs. map sized_cells gs.items ≡ map (generator p (length s.variables)) (generators s)) }
+    ensures invertible { let p = (⟦<PrimeField as Field>⟧.field field.now).characteristic in
+        IfOk result (λ gs. All (IsInvertible p) gs.items) }
+    ensures none { let s = script_of script.now in let p = (⟦<PrimeField as Field>⟧.field field.now).characteristic in
+        IfOk result (λ gs. FirstSingular p (length s.variables) (generators s) None) }
+    ensures fault { let s = script_of script.now in let p = (⟦<PrimeField as Field>⟧.field field.now).characteristic in
+        IfErr result (IsSingularFault p (length s.variables) (generators s)) }
 {
     let n = script.variables.len() as u64;
     let generators = generators(alloc, script)?;

@@ -62,7 +62,8 @@ fn matrix_over(
     matrix: &MatrixText,
 ) -> Result<Matrix<u16>, Memory>
     requires size { length matrix.now.entries.items ≡ n * n }
-    ensures is { let k = ⟦<PrimeField as Field>⟧.field field.now in IfOk result (λ g. sized_cells g ≡ generator k.characteristic n (matrix_of matrix.now)) }
+    ensures is { let k = ⟦<PrimeField as Field>⟧.field field.now in
+        IfOk result (λ g. sized_cells g ≡ generator k.characteristic n (matrix_of matrix.now)) }
     ensures matrix { IfOk result (IsMatrix (⟦<PrimeField as Field>⟧.field field.now)) }
 {
     let cells = residues(alloc, field.characteristic(), matrix.entries.as_slice())?;
@@ -81,8 +82,10 @@ pub(crate) fn invertible_over(
     matrix: &MatrixText,
 ) -> Result<Option<Matrix<u16>>, Memory>
     requires size { length matrix.now.entries.items ≡ n * n }
-    ensures none { let p = (⟦<PrimeField as Field>⟧.field field.now).characteristic in IfOk result (λ o. IfNone o (¬ HasInverse p n (cells p (matrix_of matrix.now)))) }
-    ensures is { let p = (⟦<PrimeField as Field>⟧.field field.now).characteristic in IfOk result (λ o. IfSome o (λ g. sized_cells g ≡ generator p n (matrix_of matrix.now))) }
+    ensures none { let p = (⟦<PrimeField as Field>⟧.field field.now).characteristic in
+        IfOk result (λ o. IfNone o (¬ HasInverse p n (cells p (matrix_of matrix.now)))) }
+    ensures is { let p = (⟦<PrimeField as Field>⟧.field field.now).characteristic in
+        IfOk result (λ o. IfSome o (λ g. sized_cells g ≡ generator p n (matrix_of matrix.now))) }
     ensures invertible { let p = (⟦<PrimeField as Field>⟧.field field.now).characteristic in IfOk result (λ o. IfSome o (IsInvertible p)) }
 {
     let over = matrix_over(alloc, field, n, matrix)?;

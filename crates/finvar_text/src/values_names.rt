@@ -89,7 +89,8 @@ impl<'a> Declarations<'a> {
 
     /// Adds those of the item.
     fn add(&mut self, item: &ItemText<'a>) -> Result<(), Memory>
-        ensures is { OnOk result ((ms ws : List (List ℕ)) → AreDeclared self.old ws ms → AreDeclared self.new (ws ++ names_of (item_of item.now)) (ms ++ name_of (item_of item.now))) }
+        ensures is { OnOk result ((ms ws : List (List ℕ)) → AreDeclared self.old ws ms →
+            AreDeclared self.new (ws ++ names_of (item_of item.now)) (ms ++ name_of (item_of item.now))) }
     {
         match item {
             ItemText::Declared(matrix) => {
