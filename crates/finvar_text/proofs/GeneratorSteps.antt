@@ -1,8 +1,6 @@
 -- Generators: their entries modulo the characteristic, their sizes and names, and which has no inverse.
-use Rattle.std.proofs.Common.{◌≡◌, ◌∙◌, ℕ, ◌+◌, ◌-◌, ◌*◌, ◌%◌, ◌<◌, Bool, true, false, nat_lt, List, [], length, take, map, get_or, cond, sym, ap, ap₂, subst}
+use Rattle.std.proofs.Common.{◌≡◌, ◌∙◌, ℕ, ◌-◌, ◌*◌, ◌%◌, ◌<◌, Bool, true, false, nat_lt, List, [], length, map, get_or, cond, sym, ap, ap₂, subst}
 use Rattle.std.specs.Prelude.{All}
-use Rattle.std.proofs.lemmas.Nat.{mul-mod_first}
-use Rattle.std.proofs.Math.Nat.{mod-add-mod, mod-eq_of_lt}
 use Rattle.std.proofs.lemmas.List.{length-map}
 use Rattle.std.proofs.lemmas.List.Elements.{All-map}
 use mathlib.Core.Bool.{Bool-set}
@@ -19,20 +17,6 @@ use Rattle.finvar_text.specs.Conditions.{value, residue, cells, HasInverse}
 use Rattle.finvar_text.specs.Scripts.{sized_cells, generator, IsInvertible}
 use Rattle.finvar_text.specs.Syntax.{Entry, Matrix}
 use Rattle.finvar_text.specs.Trees.{entry_of, entries_of}
-use Rattle.finvar_text.proofs.NumberSteps.{value_nil, value_more}
-
-pub modulo_nil : (p : ℕ) → 0 < p → 0 ≡ value [] % p
-modulo_nil p positive = sym (mod-eq_of_lt positive) ∙ ap (λ n. n % p) value_nil
-
-pub modulo_more : (p : ℕ) (ds : List ℕ) (i r b : ℕ) → i < length ds → r ≡ value (take i ds) % p → b ≡ get_or ds i 0 - 48 → (r * 10 + b) % p ≡ value (take (i + 1) ds) % p
-modulo_more p ds i r b below is digit =
-    let v = value (take i ds) in
-    ap (λ n. (n * 10 + b) % p) is
-    ∙ sym (mod-add-mod (v % p * 10) p b)
-    ∙ ap (λ n. (n + b) % p) (mul-mod_first v 10 p)
-    ∙ mod-add-mod (v * 10) p b
-    ∙ ap (λ n. (v * 10 + n) % p) digit
-    ∙ sym (ap (λ n. n % p) (value_more ds i below))
 
 residue_has : (p : ℕ) (e : Entry) → 0 < p → nat_lt (residue p e) p ≡ true
 residue_has p e positive = go e.is_negative

@@ -1,7 +1,6 @@
 -- What the program makes of a tree is sound, and has the tree's problem; bytes set one problem, or have one fault.
-use Rattle.std.proofs.Common.{◌≡◌, ◌∙◌, ℕ, ◌<◌, ◌≤◌, Bool, true, false, List, [], ◌∷◌, length, map, Some, None, refl, sym, ap, subst, inl, inr, arith, if◌then◌else◌}
+use Rattle.std.proofs.Common.{◌≡◌, ◌∙◌, ℕ, ◌<◌, ◌≤◌, true, List, [], ◌∷◌, length, map, Some, None, refl, sym, ap, subst, inl, inr, arith}
 use Rattle.std.specs.Prelude.{All, Option, nat_le}
-use Rattle.std.specs.Option.{option_or}
 use Rattle.std.proofs.lemmas.Bool.{leb-true}
 use Rattle.std.proofs.lemmas.List.{length-map}
 use Rattle.std.proofs.lemmas.List.Elements.{All-nil, All-cons, All-head, All-tail}
@@ -15,20 +14,14 @@ use Rattle.finvar_text.specs.Scripts.{most_bytes, generator, sized_cells, IsInve
 use Rattle.finvar_text.specs.Syntax.{Matrix, Script as Tree, IsSome, IsScript, IsText, IsFirstFault}
 use Rattle.finvar_text.specs.declared.script.Script.{Script}
 use Rattle.finvar_text.proofs.Scans.{text_unique}
+use Rattle.finvar_text.proofs.ScriptSteps.{or_none}
+use Rattle.finvar_text.proofs.SingularSteps.{fault_none}
 
 -- where no fault is told, no condition on the values fails
 
 no_first : (o : Option InputFault) (t : Tree) → FaultFrom o t None → o ≡ None
 no_first None t h = refl
 no_first (Some f) t h = absurd cc
-
-or_none : (f o : Option InputFault) → option_or f o ≡ None → (f ≡ None) × (o ≡ None)
-or_none None o e = (refl, e)
-or_none (Some f) o e = absurd cc
-
-if_none : (b : Bool) (f : InputFault) → (if b then None else Some f) ≡ None → b ≡ true
-if_none true f e = refl
-if_none false f e = absurd cc
 
 nones : (fs : List (Option InputFault)) → first_of fs ≡ None → All (λ f. f ≡ None) fs
 nones [] e = All-nil (λ f. f ≡ None)
@@ -75,8 +68,8 @@ pub sound_is : (t : Tree) (r : Script) → IsScript t → HasFault t None → Is
 sound_is t r tree fault is over =
     let none = no_fault t fault in
     let many : length r.names.items ≡ length t.variables = ap length is.names in
-    let listed : is_listed (value t.characteristic) ≡ true = if_none (is_listed (value t.characteristic)) _ (none 1 None (omega arith)) in
-    let few : length t.variables ≤ 8 = leb-true _ _ (if_none (nat_le (length t.variables) 8) _ (none 2 None (omega arith))) in
+    let listed : is_listed (value t.characteristic) ≡ true = fault_none (is_listed (value t.characteristic)) _ (none 1 None (omega arith)) in
+    let few : length t.variables ≤ 8 = leb-true _ _ (fault_none (nat_le (length t.variables) 8) _ (none 2 None (omega arith))) in
     let some : 1 ≤ length t.variables = some_length t.variables tree.some in
     let generated : 0 < length (generators t) = some_matrix-some (generators t) (none 6 None (omega arith)) in
     let sized : map sized_cells r.gens.items ≡ map (generator r.characteristic (length r.names.items)) (generators t) =

@@ -1,38 +1,54 @@
--- The generators have the size that is wanted and names, and the first of them that has no inverse.
-use Rattle.std.proofs.Common.{◌≡◌, ◌∙◌, ℕ, ◌+◌, ◌*◌, ◌<◌, Bool, true, false, List, [], ◌∷◌, ◌++◌, length, take, drop, map, get_or, Option, Some, None, cond, sym, ap, subst, refl, inl, inr, arith}
+-- The generators have names, the size that is wanted, and small numbers, and the first of them that has no inverse.
+use Rattle.std.proofs.Common.{◌≡◌, ◌∙◌, ℕ, ◌+◌, ◌*◌, ◌<◌, Bool, true, false, ◌&&◌, List, [], ◌∷◌, ◌++◌, length, take, drop, map, get_or, Option, Some, None, cond, sym, ap, subst, refl, inl, inr, arith}
 use Rattle.std.specs.Prelude.{All, IfSome}
 use Rattle.std.specs.Borrow.{Bor}
-use Rattle.std.specs.List.{flat_map}
-use Rattle.std.specs.Option.{option_or}
+use Rattle.std.specs.List.{flat_map, list_all}
+use Rattle.std.specs.Option.{option_map, option_or}
 use Rattle.std.specs.Str.{bytes_eq}
 use Rattle.std.proofs.lemmas.Bool.Decides.{nat_tests}
 use Rattle.std.proofs.lemmas.List.{get_or-map, length-map, drop_more, take_more, map-append}
 use Rattle.std.proofs.lemmas.List.Elements.{All-nil, All-cons, All-tail}
 use Rattle.alg_core.specs.declared.input_fault.InputFault.{InputFault}
 use Rattle.alg_core.specs.declared.input_fault.InputFault.TheVariants as faults
+use Rattle.finvar_text.specs.declared.syntax.EntryText.{EntryText}
 use Rattle.finvar_text.specs.declared.syntax.MatrixText.{MatrixText}
-use Rattle.finvar_text.specs.Conditions.{cells, has_size, first_misfit, matrices_of, matrices, named, put_first, select, generators, generators_by, the_call, HasInverse, FirstSingular}
-use Rattle.finvar_text.specs.Scripts.{generator}
-use Rattle.finvar_text.specs.Syntax.{Call, Item, Lib, Declared, Printed, Called, Matrix, Script, IsItem, IsName, IsScript}
-use Rattle.finvar_text.specs.Trees.{matrix_of, matrices_at}
-
--- the name is one, and the size is that wanted
-pub record IsGood (n : ℕ) (m : Matrix) : Type 0 where
-  pub name : IsName m.name
-  pub size : has_size n m ≡ true
+use Rattle.finvar_text.specs.Conditions.{is_small, is_small_matrix, is_small_item, number_fault, size_fault, cells, has_size, first_misfit, matrices_of, matrices, named, put_first, select, generators, generators_by, the_call, HasInverse, FirstSingular}
+use Rattle.finvar_text.specs.Scripts.{generator, IsFitting}
+use Rattle.finvar_text.specs.Syntax.{Call, Item, Lib, Declared, Printed, Called, Entry, Matrix, Script, IsItem, IsScript}
+use Rattle.finvar_text.specs.Trees.{entry_of, entries_of, matrix_of, matrices_at}
 
 passes : {A : Type 0} (b : Bool) (o : Option A) (x : A) → cond b o (Some x) ≡ None → (b ≡ true) × (o ≡ None)
 passes true o x h = (refl, h)
 passes false o x h = absurd cc
 
-good_matrices : (n : ℕ) (is : List Item) → All IsItem is → first_misfit n (flat_map matrices_of is) ≡ None → All (IsGood n) (flat_map matrices_of is)
-good_matrices n [] all h = All-nil (IsGood n)
-good_matrices n (Lib w ∷ is) all h = good_matrices n is (All-tail IsItem (Lib w) is all) h
-good_matrices n (Declared m ∷ is) all h =
+both : (a b : Bool) → (a && b) ≡ true → (a ≡ true) × (b ≡ true)
+both true b h = (refl, h)
+both false b h = absurd cc
+
+all_small : (es : List Entry) → list_all (λ (e : Entry). is_small e.digits) es ≡ true → All (λ (e : Entry). is_small e.digits ≡ true) es
+all_small [] h = All-nil (λ (e : Entry). is_small e.digits ≡ true)
+all_small (e ∷ es) h =
+    let parts = both (is_small e.digits) (list_all (λ (x : Entry). is_small x.digits) es) h in
+    All-cons (λ (x : Entry). is_small x.digits ≡ true) e es parts.0 (all_small es parts.1)
+
+-- the entry at a place
+pub small_at : (es : List EntryText) (i : ℕ) (d : EntryText) → All (λ (e : Entry). is_small e.digits ≡ true) (entries_of es) → i < length es → is_small (get_or es i d).number.digits.now ≡ true
+small_at es i d all below =
+    let within : i < length (entries_of es) = subst (λ k. i < k) (sym (length-map es entry_of)) below in
+    subst (λ (e : Entry). is_small e.digits ≡ true) (get_or-map entry_of es i d (entry_of d) below) (all i (entry_of d) within)
+
+fitting_matrices : (n : ℕ) (is : List Item) → All IsItem is → list_all is_small_item is ≡ true → first_misfit n (flat_map matrices_of is) ≡ None → All (IsFitting n) (flat_map matrices_of is)
+fitting_matrices n [] all small h = All-nil (IsFitting n)
+fitting_matrices n (Lib w ∷ is) all small h = fitting_matrices n is (All-tail IsItem (Lib w) is all) small h
+fitting_matrices n (Declared m ∷ is) all small h =
     let p = passes (has_size n m) (first_misfit n (flat_map matrices_of is)) m.name h in
-    All-cons (IsGood n) m (flat_map matrices_of is) (record { name = (all 0 (Declared m) (omega arith)).name; size = p.0 }) (good_matrices n is (All-tail IsItem (Declared m) is all) p.1)
-good_matrices n (Printed name word ∷ is) all h = good_matrices n is (All-tail IsItem (Printed name word) is all) h
-good_matrices n (Called c ∷ is) all h = good_matrices n is (All-tail IsItem (Called c) is all) h
+    let q = both (is_small_matrix m) (list_all is_small_item is) small in
+    let r = both (is_small m.rows) (is_small m.cols && list_all (λ (e : Entry). is_small e.digits) m.entries) q.0 in
+    let t = both (is_small m.cols) (list_all (λ (e : Entry). is_small e.digits) m.entries) r.1 in
+    All-cons (IsFitting n) m (flat_map matrices_of is) (record { name = (all 0 (Declared m) (omega arith)).name; size = p.0; small = all_small m.entries t.1 })
+    (fitting_matrices n is (All-tail IsItem (Declared m) is all) q.1 p.1)
+fitting_matrices n (Printed name word ∷ is) all small h = fitting_matrices n is (All-tail IsItem (Printed name word) is all) small h
+fitting_matrices n (Called c ∷ is) all small h = fitting_matrices n is (All-tail IsItem (Called c) is all) small h
 
 module _ (P : Matrix → Type 0) where
   either : (o p : Option Matrix) → IfSome o P → IfSome p P → IfSome (option_or o p) P
@@ -59,20 +75,28 @@ module _ (P : Matrix → Type 0) where
   by_has None ms all = all
   by_has (Some c) ms all = select_has ms c.arguments all
 
-generators_good : (s : Script) → IsScript s → first_misfit (length s.variables) (matrices s) ≡ None → All (IsGood (length s.variables)) (generators s)
+pub fault_none : (b : Bool) (f : InputFault) → cond b None (Some f) ≡ None → b ≡ true
+fault_none true f e = refl
+fault_none false f e = absurd cc
+
+name_none : (o : Option (List ℕ)) (f : List ℕ → InputFault) → option_map f o ≡ None → o ≡ None
+name_none None f e = refl
+name_none (Some w) f e = absurd cc
+
+pub generators_fitting : (s : Script) → IsScript s → number_fault s ≡ None → size_fault s ≡ None → All (IsFitting (length s.variables)) (generators s)
 unfolding generators
-generators_good s is sizes = by_has (IsGood (length s.variables)) (the_call s.items) (matrices s) (good_matrices (length s.variables) s.items is.items sizes)
+generators_fitting s is numbers sizes =
+    let small = both (is_small s.characteristic) (list_all is_small_item s.items) (fault_none _ faults.Number numbers) in
+    by_has (IsFitting (length s.variables)) (the_call s.items) (matrices s)
+    (fitting_matrices (length s.variables) s.items is.items small.1 (name_none _ (λ w. faults.Size w) sizes))
 
 -- the generator at a place
-pub generator_good : (s : Script) (n : ℕ) (xs : List (Bor MatrixText)) (i : ℕ) (d : Bor MatrixText) → IsScript s → first_misfit (length s.variables) (matrices s) ≡ None → n ≡ length s.variables
-    → matrices_at xs ≡ generators s → i < length xs → IsGood n (matrix_of (get_or xs i d).now)
-generator_good s n xs i d is sizes same these below =
-    let all = subst (All (IsGood (length s.variables))) (sym these) (generators_good s is sizes) in
+pub fitting_at : (n : ℕ) (xs : List (Bor MatrixText)) (i : ℕ) (d : Bor MatrixText) → All (IsFitting n) (matrices_at xs) → i < length xs → IsFitting n (matrix_of (get_or xs i d).now)
+fitting_at n xs i d all below =
     let within : i < length (matrices_at xs) = subst (λ k. i < k) (sym (length-map xs (λ (m : Bor MatrixText). matrix_of m.now))) below in
-    subst (λ k. IsGood k (matrix_of (get_or xs i d).now)) (sym same)
-    (subst (IsGood (length s.variables)) (get_or-map (λ (m : Bor MatrixText). matrix_of m.now) xs i d (matrix_of d.now) below) (all i (matrix_of d.now) within))
+    subst (IsFitting n) (get_or-map (λ (m : Bor MatrixText). matrix_of m.now) xs i d (matrix_of d.now) below) (all i (matrix_of d.now) within)
 
-pub size_entries : (n : ℕ) (m : MatrixText) → IsGood n (matrix_of m) → length m.entries.items ≡ n * n
+pub size_entries : (n : ℕ) (m : MatrixText) → IsFitting n (matrix_of m) → length m.entries.items ≡ n * n
 size_entries n m h =
     let size = h.size in
     let long : length (matrix_of m).entries ≡ n * n = grind (arith, nat_tests) in

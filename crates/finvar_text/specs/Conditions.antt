@@ -25,7 +25,8 @@
 --                           condition, where it fails: the numbers are small, the characteristic is listed, there are at most 8
 --                           variables, no name is declared twice, each name that is used is declared before, each matrix has the
 --                           size of the variables, and there is a generator
---   value_conditions s      each condition but that on inverses: its fault, where it fails
+--   value_conditions s, later_conditions s   each condition but that on inverses, and those of them after the conditions on numbers
+--                           and the characteristic: its fault, where it fails
 --   first_of faults         the first fault
 --   residue p e, cells p m  the class of an entry modulo p, those of the entries of a matrix
 --   entries_of_cells k n cells   the scalar at a row and a column of an n by n matrix, 0 outside it
@@ -165,8 +166,11 @@ abbrev pub some_matrix : List Matrix → Option InputFault
 some_matrix [] = Some faults.NoMatrix
 some_matrix (m ∷ ms) = None
 
+abbrev pub later_conditions : Script → List (Option InputFault)
+later_conditions s = variables_fault s ∷ twice_fault s ∷ unknown_fault s ∷ size_fault s ∷ some_matrix (generators s) ∷ []
+
 abbrev pub value_conditions : Script → List (Option InputFault)
-value_conditions s = number_fault s ∷ field_fault s ∷ variables_fault s ∷ twice_fault s ∷ unknown_fault s ∷ size_fault s ∷ some_matrix (generators s) ∷ []
+value_conditions s = number_fault s ∷ field_fault s ∷ later_conditions s
 
 abbrev pub first_of : List (Option InputFault) → Option InputFault
 first_of [] = None

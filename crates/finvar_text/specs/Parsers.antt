@@ -30,24 +30,24 @@ opening_of p openings.LibEnd = LibEnd p.name.now
 opening_of p openings.RingName = RingName
 opening_of p openings.RingEquals = RingEquals p.script.ring.now
 opening_of p openings.Characteristic = Characteristic p.script.ring.now
-opening_of p openings.CharacteristicEnd = CharacteristicEnd p.script.ring.now p.script.characteristic.now
-opening_of p openings.Variables = Variables p.script.ring.now p.script.characteristic.now
-opening_of p openings.Variable = Variable p.script.ring.now p.script.characteristic.now (bytes_of p.script.variables.items)
-opening_of p openings.VariableEnd = VariableEnd p.script.ring.now p.script.characteristic.now (bytes_of p.script.variables.items)
-opening_of p openings.VariablesEnd = VariablesEnd p.script.ring.now p.script.characteristic.now p.script.in_parentheses (bytes_of p.script.variables.items)
-opening_of p openings.Order = Order p.script.ring.now p.script.characteristic.now p.script.in_parentheses (bytes_of p.script.variables.items)
-opening_of p openings.RingEnd = RingEnd p.script.ring.now p.script.characteristic.now p.script.in_parentheses (bytes_of p.script.variables.items)
+opening_of p openings.CharacteristicEnd = CharacteristicEnd p.script.ring.now p.script.characteristic.digits.now
+opening_of p openings.Variables = Variables p.script.ring.now p.script.characteristic.digits.now
+opening_of p openings.Variable = Variable p.script.ring.now p.script.characteristic.digits.now (bytes_of p.script.variables.items)
+opening_of p openings.VariableEnd = VariableEnd p.script.ring.now p.script.characteristic.digits.now (bytes_of p.script.variables.items)
+opening_of p openings.VariablesEnd = VariablesEnd p.script.ring.now p.script.characteristic.digits.now p.script.in_parentheses (bytes_of p.script.variables.items)
+opening_of p openings.Order = Order p.script.ring.now p.script.characteristic.digits.now p.script.in_parentheses (bytes_of p.script.variables.items)
+opening_of p openings.RingEnd = RingEnd p.script.ring.now p.script.characteristic.digits.now p.script.in_parentheses (bytes_of p.script.variables.items)
 
 abbrev pub matrix_of : Parser → MatrixPosition → Matrix
 matrix_of p matrices.Rows = Rows p.name.now
-matrix_of p matrices.RowsEnd = RowsEnd p.name.now p.rows.now
-matrix_of p matrices.ColsStart = ColsStart p.name.now p.rows.now
-matrix_of p matrices.Cols = Cols p.name.now p.rows.now
-matrix_of p matrices.ColsEnd = ColsEnd p.name.now p.rows.now p.cols.now
-matrix_of p matrices.Equals = MatrixEquals p.name.now p.rows.now p.cols.now
-matrix_of p matrices.Entry = EntryStart p.name.now p.rows.now p.cols.now (entries_of p.entries.items)
-matrix_of p matrices.Digits = Digits p.name.now p.rows.now p.cols.now (entries_of p.entries.items)
-matrix_of p matrices.EntryEnd = EntryEnd p.name.now p.rows.now p.cols.now (entries_of p.entries.items)
+matrix_of p matrices.RowsEnd = RowsEnd p.name.now p.rows.digits.now
+matrix_of p matrices.ColsStart = ColsStart p.name.now p.rows.digits.now
+matrix_of p matrices.Cols = Cols p.name.now p.rows.digits.now
+matrix_of p matrices.ColsEnd = ColsEnd p.name.now p.rows.digits.now p.cols.digits.now
+matrix_of p matrices.Equals = MatrixEquals p.name.now p.rows.digits.now p.cols.digits.now
+matrix_of p matrices.Entry = EntryStart p.name.now p.rows.digits.now p.cols.digits.now (entries_of p.entries.items)
+matrix_of p matrices.Digits = Digits p.name.now p.rows.digits.now p.cols.digits.now (entries_of p.entries.items)
+matrix_of p matrices.EntryEnd = EntryEnd p.name.now p.rows.digits.now p.cols.digits.now (entries_of p.entries.items)
 
 abbrev pub call_of : Parser → CallPosition → Call
 call_of p calls.Second = Second p.name.now

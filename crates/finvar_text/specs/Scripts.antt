@@ -1,6 +1,7 @@
 -- The script that a tree stands for.
 --
 --   sized_cells g          the numbers of rows and columns, and the cells, of a matrix
+--   IsFitting n m          the matrix m has a name, n rows, n columns and n · n entries, and small numbers for entries
 --   generator p n m        those of the n by n matrix with the entries of m modulo p
 --   IsInvertible p g       g is a square matrix over GF(p) with an inverse
 --   IsSingularFault p n ms e   the error tells the first matrix with no inverse, or want of memory
@@ -10,7 +11,7 @@
 --   most_bytes             the number of bytes that a script may have, 16777216
 --   IsInputFault bytes f   there are more bytes than that, and this is the fault; or the bytes have a tree, and the first condition that fails has this fault
 --   IsScriptFault bytes e  the first fault of the bytes, or want of memory
-use Rattle.std.specs.Prelude.{◌≡◌, ◌⊎◌, ◌≤◌, ◌<◌, ℕ, List, length, map, Some, true}
+use Rattle.std.specs.Prelude.{◌≡◌, ◌⊎◌, ◌≤◌, ◌<◌, ℕ, List, length, map, All, Some, true}
 use Rattle.alg_core.specs.Fields.{Scalar, scalars}
 use Rattle.lin_algebra.specs.Matrices.{IsMatrix, IsInverse, entries}
 use Rattle.lin_algebra.specs.declared.matrix.Matrix as lin
@@ -18,8 +19,8 @@ use Rattle.prime_field.specs.ListedPrimes.{is_listed}
 use Rattle.prime_field.specs.PrimeFields.{gfp}
 use Rattle.finvar_text.specs.declared.fault.ScriptFault.{ScriptFault}
 use Rattle.finvar_text.specs.declared.fault.ScriptFault.TheVariants as faults
-use Rattle.finvar_text.specs.Conditions.{value, cells, generators, FirstSingular, HasFault}
-use Rattle.finvar_text.specs.Syntax.{Matrix, Script, IsText, IsFirstFault}
+use Rattle.finvar_text.specs.Conditions.{value, is_small, has_size, cells, generators, FirstSingular, HasFault}
+use Rattle.finvar_text.specs.Syntax.{Matrix, Script, IsName, IsText, IsFirstFault}
 use Rattle.finvar_text.specs.declared.script.Script as program
 use Rattle.finvar_text.specs.declared.scan.SyntaxFault.{SyntaxFault}
 use Rattle.finvar_text.specs.declared.scan.SyntaxFault.TheVariants as scans
@@ -28,6 +29,11 @@ use Rattle.alg_core.specs.declared.input_fault.InputFault.TheVariants as inputs
 
 abbrev pub sized_cells : lin.Matrix ℕ → ℕ × ℕ × List ℕ
 sized_cells g = (g.rows, g.cols, g.cells.items)
+
+pub record IsFitting (n : ℕ) (m : Matrix) : Type 0 where
+  pub name : IsName m.name
+  pub size : has_size n m ≡ true
+  pub small : All (λ e. is_small e.digits ≡ true) m.entries
 
 abbrev pub generator : ℕ → ℕ → Matrix → ℕ × ℕ × List ℕ
 generator p n m = (n, n, cells p m)

@@ -18,13 +18,13 @@ abbrev pub bytes_of : List (Bor (List ℕ)) → List (List ℕ)
 bytes_of ws = map (λ (w : Bor (List ℕ)). w.now) ws
 
 abbrev pub entry_of : EntryText → Entry
-entry_of e = record { is_negative = e.is_negative; digits = e.digits.now }
+entry_of e = record { is_negative = e.is_negative; digits = e.number.digits.now }
 
 abbrev pub entries_of : List EntryText → List Entry
 entries_of es = map entry_of es
 
 abbrev pub matrix_of : MatrixText → Matrix
-matrix_of m = record { name = m.name.now; rows = m.rows.now; cols = m.cols.now; entries = entries_of m.entries.items }
+matrix_of m = record { name = m.name.now; rows = m.rows.digits.now; cols = m.cols.digits.now; entries = entries_of m.entries.items }
 
 abbrev pub call_of : CallText → Call
 call_of c = record { first = c.first.now; second = c.second.now; third = c.third.now; arguments = bytes_of c.arguments.items }
@@ -42,7 +42,7 @@ abbrev pub script_of : ScriptText → Script
 script_of s = record {
   libs = bytes_of s.libs.items;
   ring = s.ring.now;
-  characteristic = s.characteristic.now;
+  characteristic = s.characteristic.digits.now;
   in_parentheses = s.in_parentheses;
   variables = bytes_of s.variables.items;
   items = items_of s.items.items;

@@ -3,6 +3,7 @@
 
 mod fault;
 mod laws;
+mod number;
 mod read;
 mod scan;
 mod scan_symbols;

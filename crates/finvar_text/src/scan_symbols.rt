@@ -133,8 +133,8 @@ impl<'a> Parser<'a> {
         ensures is { Takes result (state_of self.new)
             (symbol 59 byte (After (with_item (script_of self.old.script) (Declared (record {
               name = self.old.name.now;
-              rows = self.old.rows.now;
-              cols = self.old.cols.now;
+              rows = self.old.rows.digits.now;
+              cols = self.old.cols.digits.now;
               entries = entries_of self.old.entries.items;
             }))) self.old.has_call Items)) }
     {

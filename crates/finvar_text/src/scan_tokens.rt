@@ -6,6 +6,7 @@ ghost use Rattle.finvar_text.specs.declared.scan_tokens.ScanError.TheVariants as
 ghost use Rattle.finvar_text.specs.Grammar.{start, symbol, keyword, named, begins, word_front, takes_number, takes_text, whole};
 ghost use Rattle.finvar_text.specs.Parsers.{state_of, Expects, Finishes};
 
+use crate::number::NumberText;
 use crate::syntax::{EntryText, ScriptText};
 use alg_core::Memory;
 use std::alloc::{AllocError, AllocFailed, Global};
@@ -116,8 +117,8 @@ pub(crate) struct Parser<'a> {
     pub script: ScriptText<'a>,
     pub has_call: bool,
     pub name: &'a [u8],
-    pub rows: &'a [u8],
-    pub cols: &'a [u8],
+    pub rows: NumberText<'a>,
+    pub cols: NumberText<'a>,
     pub entries: Vec<EntryText<'a>>,
     pub second: &'a [u8],
     pub third: &'a [u8],
@@ -180,19 +181,20 @@ impl<'a> Parser<'a> {
         ensures is { state_of result ≡ start }
     {
         let none = b"".as_slice();
+        let no_number = NumberText::of(none);
         Parser {
             script: ScriptText {
                 libs: Vec::new(alloc),
                 ring: none,
-                characteristic: none,
+                characteristic: no_number,
                 in_parentheses: false,
                 variables: Vec::new(alloc),
                 items: Vec::new(alloc),
             },
             has_call: false,
             name: none,
-            rows: none,
-            cols: none,
+            rows: no_number,
+            cols: no_number,
             entries: Vec::new(alloc),
             second: none,
             third: none,

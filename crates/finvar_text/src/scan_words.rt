@@ -4,6 +4,7 @@ ghost use Rattle.finvar_text.specs.Trees.{bytes_of, script_of};
 ghost use Rattle.finvar_text.specs.Grammar.{next_word, body_word, opening_word, call_word, next_number, matrix_number, next_text, Items};
 ghost use Rattle.finvar_text.specs.Parsers.{state_of, opening_of, matrix_of, call_of, Takes};
 
+use crate::number::NumberText;
 use crate::scan_tokens::{
     CallPosition, MatrixPosition, OpeningPosition, Parser, Position, PrintPosition, ScanError,
     expect_name, expect_word,
@@ -144,24 +145,24 @@ impl<'a> Parser<'a> {
     {
         let next = match matrix {
             MatrixPosition::Rows => {
-                self.rows = digits;
+                self.rows = NumberText::of(digits);
                 MatrixPosition::RowsEnd
             }
             MatrixPosition::Cols => {
-                self.cols = digits;
+                self.cols = NumberText::of(digits);
                 MatrixPosition::ColsEnd
             }
             MatrixPosition::Entry => {
                 self.entries.push(EntryText {
                     is_negative: false,
-                    digits,
+                    number: NumberText::of(digits),
                 })?;
                 MatrixPosition::EntryEnd
             }
             MatrixPosition::Digits => {
                 self.entries.push(EntryText {
                     is_negative: true,
-                    digits,
+                    number: NumberText::of(digits),
                 })?;
                 MatrixPosition::EntryEnd
             }
@@ -178,7 +179,7 @@ impl<'a> Parser<'a> {
     {
         match self.position {
             Position::Opening(OpeningPosition::Characteristic) => {
-                self.script.characteristic = digits;
+                self.script.characteristic = NumberText::of(digits);
                 self.position = Position::Opening(OpeningPosition::CharacteristicEnd);
                 Ok(())
             }

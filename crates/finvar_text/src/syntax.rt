@@ -1,16 +1,18 @@
-/// An entry of a matrix: its sign and its digits.
+use crate::number::NumberText;
+
+/// An entry of a matrix: its sign and its number.
 #[derive(Clone, Copy, Debug)]
 pub(crate) struct EntryText<'a> {
     pub is_negative: bool,
-    pub digits: &'a [u8],
+    pub number: NumberText<'a>,
 }
 
-/// A matrix: the digits of the counts of its rows and columns, and its entries, row after row.
+/// A matrix: the numbers of its rows and columns, and its entries, row after row.
 #[derive(Debug, Drop)]
 pub(crate) struct MatrixText<'a> {
     pub name: &'a [u8],
-    pub rows: &'a [u8],
-    pub cols: &'a [u8],
+    pub rows: NumberText<'a>,
+    pub cols: NumberText<'a>,
     pub entries: Vec<EntryText<'a>>,
 }
 
@@ -37,7 +39,7 @@ pub(crate) enum ItemText<'a> {
 pub(crate) struct ScriptText<'a> {
     pub libs: Vec<&'a [u8]>,
     pub ring: &'a [u8],
-    pub characteristic: &'a [u8],
+    pub characteristic: NumberText<'a>,
     pub in_parentheses: bool,
     pub variables: Vec<&'a [u8]>,
     pub items: Vec<ItemText<'a>>,

@@ -1,22 +1,23 @@
 //! The conditions on the values of a script, in their order, but that on inverses.
 
-ghost use Rattle.std.specs.Prelude.{◌≡◌, ◌≤◌, IfOk, IsTrue, length};
-ghost use Rattle.prime_field.specs.ListedPrimes.{is_listed};
-ghost use Rattle.finvar_text.specs.Conditions.{value, is_small, number_fault, field_fault, variables_fault, twice_fault, unknown_fault, size_fault, some_matrix, generators, value_conditions, first_of};
+ghost use Rattle.std.specs.Prelude.{◌≡◌, ◌≤◌, [], ◌∷◌, IfErr, IfOk, length, true, None, Some};
+ghost use Rattle.prime_field.specs.PrimeFields.{IsPrimeField};
+ghost use Rattle.finvar_text.specs.Conditions.{value, is_small, number_fault, field_fault, variables_fault, twice_fault, unknown_fault, size_fault, declared_names, first_twice, first_unknown, first_of, later_conditions, generators as the_generators};
 ghost use Rattle.finvar_text.specs.Syntax.{IsScript};
-ghost use Rattle.finvar_text.specs.Trees.{script_of};
+ghost use Rattle.finvar_text.specs.Trees.{script_of, word_of};
 
 use crate::syntax::ScriptText;
-use crate::values::{are_numbers_small, number_of};
-use crate::values_matrices::{first_misfit, generators};
-use crate::values_names::{first_twice, first_unknown};
-use alg_core::{InputFault, Memory, Name};
+use crate::values::are_numbers_small;
+use crate::values_matrices::first_misfit;
+use alg_core::{Field, InputFault, Memory, Name};
+use prime_field::PrimeField;
 use std::alloc::Global;
 
 /// The greatest number of variables.
 const MAX_VARIABLES: usize = 8;
 
-fn number_fault(script: &ScriptText) -> Option<InputFault>
+/// The fault of the numbers.
+pub(crate) fn number_fault(script: &ScriptText) -> Option<InputFault>
     ensures is { result ≡ number_fault (script_of script.now) }
 {
     if are_numbers_small(script) {
@@ -25,33 +26,22 @@ fn number_fault(script: &ScriptText) -> Option<InputFault>
     Some(InputFault::Number)
 }
 
-/// Whether there is a field of this characteristic.
-fn is_listed(p: u128) -> bool
-    ensures is { result ≡ is_listed p }
+/// The field, or the fault of the characteristic.
+pub(crate) fn field_of(script: &ScriptText) -> Result<PrimeField, InputFault>
+    requires small { is_small script.now.characteristic.digits.now ≡ true }
+    ensures field { let p = value script.now.characteristic.digits.now in
+        IfOk result (λ k. IsPrimeField p (⟦<PrimeField as Field>⟧.field k)) }
+    ensures none { IfOk result (λ k. field_fault (script_of script.now) ≡ None) }
+    ensures fault { IfErr result (λ f. field_fault (script_of script.now) ≡ Some f) }
 {
-    p == 2 || p == 3 || p == 5 || p == 7 || p == 11 || p == 257 || p == 32003
-}
-
-/// The characteristic.
-pub(crate) fn characteristic(script: &ScriptText) -> u128
-    requires small { IsTrue (is_small script.now.characteristic.now) }
-    ensures is { result ≡ value script.now.characteristic.now }
-{
-    match number_of(script.characteristic) {
-        Some(p) => p,
-        None => 0,
+    let p = script.characteristic.get();
+    match u32::try_from(p) {
+        Ok(narrow) => match PrimeField::new(narrow) {
+            Ok(field) => Ok(field),
+            Err(_) => Err(InputFault::Field { p }),
+        },
+        Err(_) => Err(InputFault::Field { p }),
     }
-}
-
-fn field_fault(script: &ScriptText) -> Option<InputFault>
-    requires small { IsTrue (is_small script.now.characteristic.now) }
-    ensures is { result ≡ field_fault (script_of script.now) }
-{
-    let p = characteristic(script);
-    if is_listed(p) {
-        return None;
-    }
-    Some(InputFault::Field { p })
 }
 
 fn variables_fault(script: &ScriptText) -> Option<InputFault>
@@ -64,11 +54,16 @@ fn variables_fault(script: &ScriptText) -> Option<InputFault>
     Some(InputFault::Variables { n: n as u64 })
 }
 
-fn twice_fault(alloc: Global, script: &ScriptText) -> Result<Option<InputFault>, Memory>
+fn twice_fault(
+    alloc: Global,
+    script: &ScriptText,
+    twice: Option<&[u8]>,
+) -> Result<Option<InputFault>, Memory>
     requires script { IsScript (script_of script.now) }
+    requires twice { word_of twice ≡ first_twice [] (declared_names (script_of script.now)) }
     ensures is { IfOk result (λ o. o ≡ twice_fault (script_of script.now)) }
 {
-    match first_twice(alloc, script)? {
+    match twice {
         Some(name) => {
             let name = Name::new(alloc, name)?;
             Ok(Some(InputFault::Twice { name }))
@@ -77,11 +72,16 @@ fn twice_fault(alloc: Global, script: &ScriptText) -> Result<Option<InputFault>,
     }
 }
 
-fn unknown_fault(alloc: Global, script: &ScriptText) -> Result<Option<InputFault>, Memory>
+fn unknown_fault(
+    alloc: Global,
+    script: &ScriptText,
+    unknown: Option<&[u8]>,
+) -> Result<Option<InputFault>, Memory>
     requires script { IsScript (script_of script.now) }
+    requires unknown { let s = script_of script.now in word_of unknown ≡ first_unknown [] (s.ring ∷ s.variables) s.items }
     ensures is { IfOk result (λ o. o ≡ unknown_fault (script_of script.now)) }
 {
-    match first_unknown(alloc, script)? {
+    match unknown {
         Some(name) => {
             let name = Name::new(alloc, name)?;
             Ok(Some(InputFault::Unknown { name }))
@@ -104,39 +104,35 @@ fn size_fault(alloc: Global, script: &ScriptText) -> Result<Option<InputFault>, 
     }
 }
 
-fn generator_fault(alloc: Global, script: &ScriptText) -> Result<Option<InputFault>, Memory>
-    ensures is { IfOk result (λ o. o ≡ some_matrix (generators (script_of script.now))) }
-{
-    let generators = generators(alloc, script)?;
-    if generators.len() == 0 {
-        return Ok(Some(InputFault::NoMatrix));
-    }
-    Ok(None)
-}
-
-/// The first of the conditions but that on inverses that fails.
-pub(crate) fn value_fault(alloc: Global, script: &ScriptText) -> Result<Option<InputFault>, Memory>
+/// The first of the conditions after those on numbers and the characteristic, but that on inverses,
+/// that fails.
+pub(crate) fn later_fault(
+    alloc: Global,
+    script: &ScriptText,
+    twice: Option<&[u8]>,
+    unknown: Option<&[u8]>,
+    generators: usize,
+) -> Result<Option<InputFault>, Memory>
     requires script { IsScript (script_of script.now) }
-    ensures is { IfOk result (λ o. o ≡ first_of (value_conditions (script_of script.now))) }
+    requires twice { word_of twice ≡ first_twice [] (declared_names (script_of script.now)) }
+    requires unknown { let s = script_of script.now in word_of unknown ≡ first_unknown [] (s.ring ∷ s.variables) s.items }
+    requires count { generators ≡ length (the_generators (script_of script.now)) }
+    ensures is { IfOk result (λ o. o ≡ first_of (later_conditions (script_of script.now))) }
 {
-    if let Some(fault) = number_fault(script) {
-        return Ok(Some(fault));
-    }
-    if let Some(fault) = field_fault(script) {
-        return Ok(Some(fault));
-    }
     if let Some(fault) = variables_fault(script) {
         return Ok(Some(fault));
     }
-    if let Some(fault) = twice_fault(alloc, script)? {
+    if let Some(fault) = twice_fault(alloc, script, twice)? {
         return Ok(Some(fault));
     }
-    if let Some(fault) = unknown_fault(alloc, script)? {
+    if let Some(fault) = unknown_fault(alloc, script, unknown)? {
         return Ok(Some(fault));
     }
     if let Some(fault) = size_fault(alloc, script)? {
         return Ok(Some(fault));
     }
-    let fault = generator_fault(alloc, script)?;
-    Ok(fault)
+    if generators == 0 {
+        return Ok(Some(InputFault::NoMatrix));
+    }
+    Ok(None)
 }

@@ -1,12 +1,13 @@
 //! The matrices of a script: their sizes, and which are the generators.
 
-ghost use Rattle.std.specs.Prelude.{◌≡◌, ◌==◌, ◌≤◌, length, IfOk};
+ghost use Rattle.std.specs.Prelude.{◌≡◌, ◌==◌, ◌≤◌, ℕ, List, length, IfOk};
 ghost use Rattle.finvar_text.specs.Conditions.{value, matrices, has_size, first_misfit, the_call, select, generators};
 ghost use Rattle.finvar_text.specs.Declarations.{MapsNames};
+ghost use Rattle.finvar_text.specs.Syntax.{Matrix};
 ghost use Rattle.finvar_text.specs.Trees.{bytes_of, word_of, items_of, matrix_of, matrices_at, call_at, script_of};
 
+use crate::number::NumberText;
 use crate::syntax::{CallText, ItemText, MatrixText, ScriptText};
-use crate::values::number_of;
 use alg_core::Memory;
 use std::alloc::Global;
 use std::collections::HashMap;
@@ -28,11 +29,11 @@ fn declared_matrices<'b, 'a>(
     Ok(matrices)
 }
 
-/// Whether the digits write this count.
-fn is_count(digits: &[u8], count: usize) -> bool
-    ensures is { result ≡ (value digits.now == count) }
+/// Whether the number is this count.
+fn is_count(number: &NumberText, count: usize) -> bool
+    ensures is { result ≡ (value number.now.digits.now == count) }
 {
-    match number_of(digits) {
+    match number.value {
         Some(number) => number == count as u128,
         None => false,
     }
@@ -43,7 +44,7 @@ fn has_size(n: usize, matrix: &MatrixText) -> bool
     requires small { n ≤ 8 }
     ensures is { result ≡ has_size n (matrix_of matrix.now) }
 {
-    is_count(matrix.rows, n) && is_count(matrix.cols, n) && matrix.entries.len() == n * n
+    is_count(&matrix.rows, n) && is_count(&matrix.cols, n) && matrix.entries.len() == n * n
 }
 
 /// The name of the first matrix of another size.
@@ -78,31 +79,15 @@ fn the_call<'b, 'a>(script: &'b ScriptText<'a>) -> Option<&'b CallText<'a>>
     None
 }
 
-/// The matrix of each name.
-fn by_name<'b, 'a>(
-    alloc: Global,
-    script: &'b ScriptText<'a>,
-) -> Result<HashMap<&'a [u8], &'b MatrixText<'a>>, Memory>
-    ensures is { IfOk result (λ m. MapsNames m.entries (matrices (script_of script.now))) }
-{
-    let mut by_name = HashMap::new(alloc);
-    for item in script.items.as_slice() {
-        if let ItemText::Declared(matrix) = item {
-            by_name.insert(matrix.name, matrix)?;
-        }
-    }
-    Ok(by_name)
-}
-
 /// The matrices of these names.
 fn select<'b, 'a>(
     alloc: Global,
-    script: &'b ScriptText<'a>,
+    by_name: &HashMap<&'a [u8], &'b MatrixText<'a>>,
     names: &[&'a [u8]],
 ) -> Result<Vec<&'b MatrixText<'a>>, Memory>
-    ensures is { IfOk result (λ ms. matrices_at ms.items ≡ select (matrices (script_of script.now)) (bytes_of names.now)) }
+    ensures is { (ms : List Matrix) → MapsNames by_name.now.entries ms →
+        IfOk result (λ selected. matrices_at selected.items ≡ select ms (bytes_of names.now)) }
 {
-    let by_name = by_name(alloc, script)?;
     let mut selected = Vec::new(alloc);
     for name in names {
         if let Some(matrix) = by_name.get(*name) {
@@ -116,12 +101,14 @@ fn select<'b, 'a>(
 pub(crate) fn generators<'b, 'a>(
     alloc: Global,
     script: &'b ScriptText<'a>,
+    by_name: &HashMap<&'a [u8], &'b MatrixText<'a>>,
 ) -> Result<Vec<&'b MatrixText<'a>>, Memory>
+    requires names { MapsNames by_name.now.entries (matrices (script_of script.now)) }
     ensures is { IfOk result (λ ms. matrices_at ms.items ≡ generators (script_of script.now)) }
 {
     match the_call(script) {
         Some(call) => {
-            let selected = select(alloc, script, call.arguments.as_slice())?;
+            let selected = select(alloc, by_name, call.arguments.as_slice())?;
             Ok(selected)
         }
         None => {

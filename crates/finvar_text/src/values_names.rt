@@ -1,106 +1,68 @@
 //! The names that a script declares and uses.
 
-ghost use Rattle.std.specs.Prelude.{◌≡◌, ℕ, List, [], ◌∷◌, ◌++◌, IfOk, OnOk};
-ghost use Rattle.finvar_text.specs.Conditions.{declared_names, names_of, name_of, first_twice, first_other, unknown_in, first_unknown};
-ghost use Rattle.finvar_text.specs.Declarations.{AreDeclared};
-ghost use Rattle.finvar_text.specs.Trees.{bytes_of, word_of, item_of, items_of, script_of};
+ghost use Rattle.std.specs.Prelude.{◌≡◌, ℕ, List, [], ◌∷◌, ◌++◌, IfOk, OnOk, map};
+ghost use Rattle.finvar_text.specs.Conditions.{names_of, matrices_of, first_other, unknown_in, first_unknown, declared_names, matrices};
+ghost use Rattle.finvar_text.specs.Declarations.{AreDeclared, names_in};
+ghost use Rattle.finvar_text.specs.Syntax.{Matrix};
+ghost use Rattle.finvar_text.specs.Trees.{bytes_of, word_of, item_of, script_of};
 
-use crate::syntax::{ItemText, ScriptText};
+use crate::syntax::{ItemText, MatrixText, ScriptText};
 use alg_core::Memory;
 use std::alloc::Global;
-use std::collections::HashSet;
+use std::collections::{HashMap, HashSet};
 
-/// Puts the names that the item declares after the others.
-fn push_names<'a>(names: &mut Vec<&'a [u8]>, item: &ItemText<'a>) -> Result<(), Memory>
-    ensures is { OnOk result (bytes_of names.new.items ≡ bytes_of names.old.items ++ names_of (item_of item.now)) }
-{
-    match item {
-        ItemText::Declared(matrix) => names.push(matrix.name)?,
-        ItemText::Called(call) => {
-            names.push(call.first)?;
-            names.push(call.second)?;
-            names.push(call.third)?;
-        }
-        ItemText::Lib(_) | ItemText::Printed { .. } => {}
-    }
-    Ok(())
-}
-
-/// The names that the script declares, in order.
-fn declared_names<'a>(alloc: Global, script: &ScriptText<'a>) -> Result<Vec<&'a [u8]>, Memory>
-    ensures is { IfOk result (λ names. bytes_of names.items ≡ declared_names (script_of script.now)) }
-{
-    let mut names = Vec::new(alloc);
-    names.push(script.ring)?;
-    for variable in script.variables.as_slice() {
-        names.push(*variable)?;
-    }
-    for item in script.items.as_slice() {
-        push_names(&mut names, item)?;
-    }
-    Ok(names)
-}
-
-/// The first name that stands before it too.
-fn first_repeated<'a>(alloc: Global, names: &[&'a [u8]]) -> Result<Option<&'a [u8]>, Memory>
-    ensures is { IfOk result (λ o. word_of o ≡ first_twice [] (bytes_of names.now)) }
-{
-    let mut before = HashSet::new(alloc);
-    for name in names {
-        if !before.insert(*name)? {
-            return Ok(Some(*name));
-        }
-    }
-    Ok(None)
-}
-
-/// The first name that is declared twice.
-pub(crate) fn first_twice<'a>(
-    alloc: Global,
-    script: &ScriptText<'a>,
-) -> Result<Option<&'a [u8]>, Memory>
-    ensures is { IfOk result (λ o. word_of o ≡ first_twice [] (declared_names (script_of script.now))) }
-{
-    let names = declared_names(alloc, script)?;
-    let name = first_repeated(alloc, names.as_slice())?;
-    Ok(name)
-}
-
-/// The names that are declared before an item, and those of them that are matrices.
-#[derive(Debug, Drop)]
-struct Declarations<'a> {
+/// The names that are declared, the matrices by their names, and the first name that is declared
+/// twice.
+#[derive(Drop)]
+pub(crate) struct Declarations<'b, 'a> {
     names: HashSet<&'a [u8]>,
-    matrices: HashSet<&'a [u8]>,
+    pub matrices: HashMap<&'a [u8], &'b MatrixText<'a>>,
+    pub twice: Option<&'a [u8]>,
 }
 
-impl<'a> Declarations<'a> {
-    /// Those before the items.
-    fn new(alloc: Global, script: &ScriptText<'a>) -> Result<Declarations<'a>, Memory>
+impl<'b, 'a> Declarations<'b, 'a> {
+    /// Those of the ring and its variables.
+    fn of_ring(alloc: Global, script: &ScriptText<'a>) -> Result<Declarations<'b, 'a>, Memory>
         ensures is { let s = script_of script.now in IfOk result (λ d. AreDeclared d (s.ring ∷ s.variables) []) }
     {
-        let mut names = HashSet::new(alloc);
-        names.insert(script.ring)?;
+        let mut declarations = Declarations {
+            names: HashSet::new(alloc),
+            matrices: HashMap::new(alloc),
+            twice: None,
+        };
+        declarations.declare(script.ring)?;
         for variable in script.variables.as_slice() {
-            names.insert(*variable)?;
+            declarations.declare(*variable)?;
         }
-        let matrices = HashSet::new(alloc);
-        Ok(Declarations { names, matrices })
+        Ok(declarations)
+    }
+
+    /// Adds a name.
+    fn declare(&mut self, name: &'a [u8]) -> Result<(), Memory>
+        ensures is { OnOk result ((ws : List (List ℕ)) (ms : List Matrix) → AreDeclared self.old ws ms →
+            AreDeclared self.new (ws ++ name.now ∷ []) ms) }
+    {
+        let is_new = self.names.insert(name)?;
+        if !is_new {
+            self.twice = self.twice.or(Some(name));
+        }
+        Ok(())
     }
 
     /// Adds those of the item.
-    fn add(&mut self, item: &ItemText<'a>) -> Result<(), Memory>
-        ensures is { OnOk result ((ms ws : List (List ℕ)) → AreDeclared self.old ws ms →
-            AreDeclared self.new (ws ++ names_of (item_of item.now)) (ms ++ name_of (item_of item.now))) }
+    fn add(&mut self, item: &'b ItemText<'a>) -> Result<(), Memory>
+        ensures is { OnOk result ((ws : List (List ℕ)) (ms : List Matrix) → AreDeclared self.old ws ms →
+            AreDeclared self.new (ws ++ names_of (item_of item.now)) (ms ++ matrices_of (item_of item.now))) }
     {
         match item {
             ItemText::Declared(matrix) => {
-                self.names.insert(matrix.name)?;
-                self.matrices.insert(matrix.name)?;
+                self.declare(matrix.name)?;
+                self.matrices.insert(matrix.name, matrix)?;
             }
             ItemText::Called(call) => {
-                self.names.insert(call.first)?;
-                self.names.insert(call.second)?;
-                self.names.insert(call.third)?;
+                self.declare(call.first)?;
+                self.declare(call.second)?;
+                self.declare(call.third)?;
             }
             ItemText::Lib(_) | ItemText::Printed { .. } => {}
         }
@@ -109,10 +71,11 @@ impl<'a> Declarations<'a> {
 
     /// The first of the names that is no matrix.
     fn first_other(&self, names: &[&'a [u8]]) -> Option<&'a [u8]>
-        ensures is { (ms ws : List (List ℕ)) → AreDeclared self.now ws ms → word_of result ≡ first_other ms (bytes_of names.now) }
+        ensures is { (ws : List (List ℕ)) (ms : List Matrix) → AreDeclared self.now ws ms →
+            word_of result ≡ first_other (names_in ms) (bytes_of names.now) }
     {
         for name in names {
-            if !self.matrices.contains(*name) {
+            if !self.matrices.contains_key(*name) {
                 return Some(*name);
             }
         }
@@ -121,7 +84,8 @@ impl<'a> Declarations<'a> {
 
     /// The first name that the item uses and that is not declared.
     fn unknown_in(&self, item: &ItemText<'a>) -> Option<&'a [u8]>
-        ensures is { (ms ws : List (List ℕ)) → AreDeclared self.now ws ms → word_of result ≡ unknown_in ms ws (item_of item.now) }
+        ensures is { (ws : List (List ℕ)) (ms : List Matrix) → AreDeclared self.now ws ms →
+            word_of result ≡ unknown_in (names_in ms) ws (item_of item.now) }
     {
         match item {
             ItemText::Printed { name, .. } => {
@@ -136,20 +100,20 @@ impl<'a> Declarations<'a> {
     }
 }
 
-/// The first name that is used and not declared before.
-pub(crate) fn first_unknown<'a>(
+/// The declarations of the script, and the first name that is used and not declared before.
+pub(crate) fn read_names<'b, 'a>(
     alloc: Global,
-    script: &ScriptText<'a>,
-) -> Result<Option<&'a [u8]>, Memory>
-    ensures is { let s = script_of script.now in IfOk result (λ o. word_of o ≡ first_unknown [] (s.ring ∷ s.variables) s.items) }
+    script: &'b ScriptText<'a>,
+) -> Result<(Declarations<'b, 'a>, Option<&'a [u8]>), Memory>
+    ensures declared { let s = script_of script.now in IfOk result (λ r. AreDeclared r.0 (declared_names s) (matrices s)) }
+    ensures unknown { let s = script_of script.now in
+        IfOk result (λ r. word_of r.1 ≡ first_unknown [] (s.ring ∷ s.variables) s.items) }
 {
-    let mut declarations = Declarations::new(alloc, script)?;
+    let mut declarations = Declarations::of_ring(alloc, script)?;
+    let mut unknown = None;
     for item in script.items.as_slice() {
-        let unknown = declarations.unknown_in(item);
-        if unknown.is_some() {
-            return Ok(unknown);
-        }
+        unknown = unknown.or(declarations.unknown_in(item));
         declarations.add(item)?;
     }
-    Ok(None)
+    Ok((declarations, unknown))
 }

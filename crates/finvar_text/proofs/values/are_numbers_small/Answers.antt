@@ -11,7 +11,7 @@ use Rattle.finvar_text.proofs.values.are_numbers_small.Goals as goal
 pub returns-then-is_small : goal.returns-then-is_small
 returns-then-is_small c =
     let items = c.args.script.now.items.items in
-    let first : is_small c.args.script.now.characteristic.now ≡ true = search rules in
+    let first : is_small c.args.script.now.characteristic.digits.now ≡ true = search rules in
     record {
       is = all_from_yields_List (λ (x : ItemText). is_small_item (item_of x)) _ _ c.all.result c.all.ensures.ran (YieldsList-from_slice items cc) (λ x b q k. search (rules, tests))
           ∙ sym (list_all-map is_small_item item_of items)

@@ -8,7 +8,7 @@ unfolding generators
 returns-in_ok-selected-in-Some c =
     let ms = matrices (script_of c.args.script.now) in
     let call = sym c.the_call.ensures.is ∙ ap call_at c.in-Some.is in
-    record { is = c.in_ok-selected-in-Some.ensures.is ∙ ap (λ l. select ms (bytes_of l)) c.as_slice.ensures.value ∙ sym (ap (λ o. generators_by o ms) call) }
+    record { is = c.in_ok-selected-in-Some.ensures.is ms c.requires.names ∙ ap (λ l. select ms (bytes_of l)) c.as_slice.ensures.value ∙ sym (ap (λ o. generators_by o ms) call) }
 
 pub returns-in_ok-matrices-in-None : goal.returns-in_ok-matrices-in-None
 unfolding generators

@@ -1,8 +1,9 @@
-use Rattle.std.proofs.Common.{◌≡◌, take}
-use Rattle.std.specs.List.{flat_map}
-use Rattle.finvar_text.specs.Conditions.{select, matrices_of}
-use Rattle.finvar_text.specs.Trees.{bytes_of, items_of, matrices_at}
+use Rattle.std.proofs.Common.{◌≡◌, List, take}
+use Rattle.finvar_text.specs.Conditions.{select}
+use Rattle.finvar_text.specs.Declarations.{MapsNames}
+use Rattle.finvar_text.specs.Syntax.{Matrix}
+use Rattle.finvar_text.specs.Trees.{bytes_of, matrices_at}
 use Rattle.finvar_text.proofs.values_matrices.select.Given as goal
 
 abbrev pub invariant-loop-name : goal.invariant-loop-name
-invariant-loop-name l = matrices_at l.selected.items ≡ select (flat_map matrices_of (items_of l.script.items.items)) (bytes_of (take l.name-index l.names))
+invariant-loop-name l = (ms : List Matrix) → MapsNames l.by_name.entries ms → matrices_at l.selected.items ≡ select ms (bytes_of (take l.name-index l.names))

@@ -1,6 +1,6 @@
 use Rattle.std.proofs.Common.{◌∙◌, ◌*◌, ap, arith}
 use Rattle.finvar_text.proofs.NumberSteps.{value_nil, value_more, value_all, number_within, step_over}
-use Rattle.finvar_text.proofs.values.number_of.Goals as goal
+use Rattle.finvar_text.proofs.number.number_of.Goals as goal
 
 pub loop-digit-init : goal.loop-digit-init
 loop-digit-init c = record { is = value_nil; within = omega arith }
