@@ -4,8 +4,9 @@
     bench/gate_price.py [CRATE ..]
 
 Works on a clone of the last commit in a temporary folder, so that everything is proved from nothing and nothing here
-changes. The crates are taken lowest first, one job at a time; those that are not named are only built, as far as the
-named ones stand on them. What is printed is processor time, so other work on the machine changes it little.
+changes, and with a kit of its own there, since a kit begins a check with what other checkouts on the machine kept. The
+crates are taken lowest first, one job at a time; those that are not named are only built, as far as the named ones stand
+on them. What is printed is processor time, so other work on the machine changes it little.
 """
 
 import os
@@ -40,6 +41,21 @@ def below(crates, names):
             wanted.add(name)
             left += crates[name]
     return wanted
+
+
+def own_kit(folder):
+    """A kit in the folder that keeps nothing and is given nothing: the scripts of the kit are copied, all else is linked."""
+    kit = os.path.dirname(os.path.dirname(os.path.realpath(shutil.which("rt"))))
+    own = f"{folder}/kit"
+    os.makedirs(f"{own}/bin")
+    for name in os.listdir(kit):
+        if name != "bin":
+            os.symlink(f"{kit}/{name}", f"{own}/{name}")
+    for name in os.listdir(f"{kit}/bin"):
+        with open(f"{kit}/bin/{name}", "rb") as file:
+            is_program = file.read(4) == b"\x7fELF"
+        (os.symlink if is_program else shutil.copy2)(f"{kit}/bin/{name}", f"{own}/bin/{name}")
+    os.environ["PATH"] = f"{own}/bin:{os.environ['PATH']}"
 
 
 def minutes(folder, *words):
@@ -85,6 +101,7 @@ def main():
     sums = [0.0, 0.0, 0.0]
     print("| Crate | Proof | Tests | Edits |\n|---|---|---|---|", flush=True)
     with tempfile.TemporaryDirectory(prefix="gate-price-") as room:
+        own_kit(room)
         top = f"{room}/clone"
         subprocess.run(["git", "clone", "-q", TOP, top], check=True)
         for name in crates:
