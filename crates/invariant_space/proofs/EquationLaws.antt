@@ -1,5 +1,5 @@
 -- The equations of the invariants: their entries, and what solves them.
-use Rattle.std.proofs.Common.{◌≡◌, ◌↔◌, ◌⊎◌, ℕ, suc, ◌+◌, ◌*◌, ◌<◌, ◌≤◌, inl, inr, List, [], ◌∷◌, ◌++◌, length, map, get_or, Vec, Global, refl, sym, ap, ap₂, subst, ◌∙◌, arith}
+use Rattle.std.proofs.Common.{◌≡◌, ◌↔◌, ◌⊎◌, ℕ, ◌+◌, ◌*◌, ◌<◌, ◌≤◌, inl, inr, List, [], ◌∷◌, ◌++◌, length, get_or, Vec, Global, sym, ap, ap₂, subst, ◌∙◌, arith}
 use Rattle.std.specs.Prelude.{All}
 use Rattle.std.specs.List.{AllByRecursion as Each}
 use Rattle.std.proofs.lemmas.Bool.{cases_lt}
@@ -26,11 +26,11 @@ use Rattle.lin_algebra.proofs.DotLaws.{dot_add_right, dot_act_right, dot_unit, u
 use Rattle.lin_algebra.proofs.EachLaws.{Each_append, Each_append_left, Each_append_right}
 use Rattle.matrix_group.specs.Actions.{act_by, Invariant, IsSquare}
 use Rattle.matrix_group.proofs.ActionLaws.{act_linear}
-use Rattle.invariant_space.specs.Equations.{IsMonomialList, coordinates, Solves, AreEquations}
-use Rattle.invariant_space.specs.Images.{AreImages, AllImages}
+use Rattle.invariant_space.specs.Equations.{IsMonomialList, coordinates, Solves}
+use Rattle.invariant_space.specs.Images.{AreImages}
 use Rattle.invariant_space.specs.Monomials.{EachAt}
-use Rattle.invariant_space.proofs.ImageLaws.{act_keys, image_row}
-use Rattle.invariant_space.proofs.Places.{at_read, element_at, place_in}
+use Rattle.invariant_space.proofs.ImageLaws.{act_keys}
+use Rattle.invariant_space.proofs.Places.{element_at, place_in}
 use Rattle.invariant_space.proofs.RowPolynomials.{in_keys, coordinates_at, coordinates_past, coordinates_linear, coordinates_single}
 
 -- a product at one vector is linear in the other

@@ -1,7 +1,6 @@
 -- Images of the monomials of a degree, from those of the degree below.
-use Rattle.std.proofs.Common.{◌≡◌, ◌⊎◌, ℕ, zero, suc, ◌+◌, ◌<◌, ◌≤◌, inl, inr, List, [], ◌∷◌, ◌++◌, length, map, replicate, get_or, Vec, Global, refl, sym, ap, ap₂, subst, ◌∙◌, arith}
+use Rattle.std.proofs.Common.{◌≡◌, ℕ, zero, suc, ◌<◌, ◌≤◌, inl, inr, List, [], ◌∷◌, length, replicate, get_or, Vec, Global, refl, sym, ap, ap₂, subst, ◌∙◌, arith}
 use Rattle.std.specs.Prelude.{All, Option, None, Some, IfNone, IfSome, IsSome}
-use Rattle.std.specs.declared.cmp.Ordering.TheVariants.{Less}
 use Rattle.std.proofs.lemmas.List.{get_or_default}
 use Rattle.alg_core.specs.Fields.{FieldOn, Has, Scalar, scalars, scalar, scalar_one}
 use Rattle.alg_core.specs.Monomials.{monomials}
@@ -16,7 +15,7 @@ use Rattle.poly_module.specs.MonomialVariables.{variable}
 use Rattle.poly_module.specs.Substitutions.{variable_vector}
 use Rattle.poly_module.specs.Forms.{IsForm}
 use Rattle.poly_module.specs.Parts.{Supp, InVariables, supp_single}
-use Rattle.poly_module.specs.Polynomials.{product, single_vector, one_vector}
+use Rattle.poly_module.specs.Polynomials.{product, single_vector}
 use Rattle.poly_module.specs.Products.{product_single, one_vector_single}
 use Rattle.poly_module.specs.SpaceVectors.{IsPoly}
 use Rattle.lin_algebra.specs.declared.matrix.Matrix.{Matrix}
@@ -26,12 +25,12 @@ use Rattle.lin_algebra.proofs.CutLaws.{IsRow_row}
 use Rattle.matrix_group.specs.Actions.{act_by, linear_form, IsSquare}
 use Rattle.matrix_group.proofs.ActionLaws.{act_product, act_variable, act_one, act_form, act_in_variables}
 use Rattle.matrix_group.proofs.LinearForms.{image_inside}
-use Rattle.invariant_space.specs.InvariantSpaces.{IsOfDegree, IsInvariantForm}
+use Rattle.invariant_space.specs.InvariantSpaces.{IsInvariantForm}
 use Rattle.invariant_space.specs.Equations.{IsMonomialList, coordinates}
 use Rattle.alg_core.specs.declared.term.Term.{Term}
 use Rattle.invariant_space.specs.declared.images.Level.{Level}
 use Rattle.invariant_space.specs.Images.{IsQuotient, IsTable, IsStep, IsCoordinates, AreImages, AllImages, IsLevel}
-use Rattle.invariant_space.specs.Monomials.{EachAt, AreSums, keys_of}
+use Rattle.invariant_space.specs.Monomials.{AreSums, keys_of}
 use Rattle.invariant_space.proofs.Places.{element_at, element_in}
 use Rattle.invariant_space.proofs.MonomialSums.{lowered, monomial_list, of_degree_zero, one_degree}
 use Rattle.invariant_space.proofs.QuotientLaws.{coordinates_made}

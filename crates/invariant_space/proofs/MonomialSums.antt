@@ -15,7 +15,7 @@ use Rattle.alg_core.specs.KeyOrders.{greater_less}
 use Rattle.alg_core.specs.Lists.{In}
 use Rattle.alg_core.specs.SpaceGrading.{weight, weight_ext, weight_mul}
 use Rattle.alg_core.specs.SpaceOrder.{key_order, key_compare_places}
-use Rattle.alg_core.specs.Vectors.{Vect, Entry, vec, coef_at, plus, shift, zero_vector}
+use Rattle.alg_core.specs.Vectors.{Entry, vec, coef_at, plus, shift, zero_vector}
 use Rattle.alg_core.specs.declared.term.Term.{Term}
 use Rattle.alg_core.specs.Spaces.{SpaceOver, entries, Fits, IsAbove}
 use Rattle.alg_core.proofs.MonomialLists.{exponent_past, length_mon, length_mul, length_one}
@@ -24,7 +24,7 @@ use Rattle.poly_module.specs.Forms.{key_weight, dec_both}
 use Rattle.poly_module.specs.GreatestExponents.{total, greatest}
 use Rattle.poly_module.specs.MonomialVariables.{after_zeros, variable}
 use Rattle.poly_module.specs.Parts.{Supp, supp_zero, supp_plus, supp_single, supp_shift, supp_weaken, supp_outside}
-use Rattle.poly_module.specs.Polynomials.{one_vector, product, single_vector}
+use Rattle.poly_module.specs.Polynomials.{one_vector, product}
 use Rattle.poly_module.specs.Products.{one_vector_single, shift_product}
 use Rattle.poly_module.specs.Substitutions.{variable_vector}
 use Rattle.poly_module.specs.Sizes.{HasRoom}

@@ -1,29 +1,28 @@
 -- Products with linear forms, by the places of quotients.
-use Rattle.std.proofs.Common.{◌≡◌, ◌⊎◌, ℕ, zero, suc, ◌+◌, ◌<◌, ◌≤◌, inl, inr, List, [], ◌∷◌, ◌++◌, length, map, get_or, Vec, Global, refl, sym, ap, ap₂, subst, ◌∙◌, arith}
+use Rattle.std.proofs.Common.{◌≡◌, ◌⊎◌, ℕ, suc, ◌<◌, ◌≤◌, inl, inr, List, length, get_or, Vec, Global, refl, sym, ap, ap₂, ◌∙◌, arith}
 use Rattle.std.specs.Prelude.{All, Option, None, Some, IfNone, IfSome}
 use Rattle.std.specs.Option.{unwrap_or}
 use Rattle.std.proofs.lemmas.Bool.{cases_lt}
-use Rattle.std.proofs.lemmas.List.{get_or_past, get_or_read, length-map}
-use Rattle.alg_core.specs.RingLaws as rings
+use Rattle.std.proofs.lemmas.List.{get_or_past, get_or_read}
 use Rattle.alg_core.specs.Fields.{FieldOn, Has, Scalar, scalars, scalar, scalar_zero, scalar_add, scalar_mul}
 use Rattle.alg_core.specs.Monomials.{Mon, monomials, mono, divides_dec, Divides}
 use Rattle.alg_core.specs.Keys.{TermPlace, Key, key, times_key, times_key_cancel, KeyDivides}
 use Rattle.alg_core.specs.Lists.{In}
-use Rattle.alg_core.specs.Vectors.{Vect, vectors, coef_at, plus, shift, zero_vector}
+use Rattle.alg_core.specs.Vectors.{Vect, vectors, coef_at, plus, shift}
 use Rattle.alg_core.proofs.VectorLaws.{coef_at_plus, coef_at_zero}
 use Rattle.poly_module.specs.MonomialVariables.{variable}
 use Rattle.poly_module.specs.Substitutions.{variable_vector}
 use Rattle.poly_module.specs.Parts.{Supp, supp_outside}
-use Rattle.poly_module.specs.Polynomials.{product, single_vector}
+use Rattle.poly_module.specs.Polynomials.{product}
 use Rattle.poly_module.specs.Products.{plus_product, zero_product, product_linear_left, shift_product}
 use Rattle.poly_module.proofs.EchelonLists.{coef_at_act}
 use Rattle.poly_module.proofs.LeadLaws.{coef_shift, coef_shift_outside}
-use Rattle.lin_algebra.specs.Vectors.{vector, IsRow}
+use Rattle.lin_algebra.specs.Vectors.{vector}
 use Rattle.matrix_group.specs.Actions.{linear_form}
 use Rattle.invariant_space.specs.Equations.{coordinates}
-use Rattle.invariant_space.specs.Images.{IsQuotient, AreQuotients, IsTable, IsCoordinates}
+use Rattle.invariant_space.specs.Images.{IsQuotient, IsTable, IsCoordinates}
 use Rattle.invariant_space.specs.Monomials.{EachAt}
-use Rattle.invariant_space.proofs.Places.{element_at, element_in, place_in}
+use Rattle.invariant_space.proofs.Places.{element_at, place_in}
 use Rattle.invariant_space.proofs.RowPolynomials.{coordinates_at, coordinates_past}
 
 pub key_position : (p : TermPlace) → (key p).0 ≡ p.0

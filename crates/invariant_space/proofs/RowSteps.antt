@@ -1,10 +1,10 @@
 -- The polynomial of a row of coefficients, term by term.
-use Rattle.std.proofs.Common.{◌≡◌, ℕ, suc, ◌+◌, ◌<◌, ◌≤◌, List, [], ◌∷◌, ◌++◌, length, map, get_or, take, refl, sym, ap, ap₂, subst, ◌∙◌, arith}
+use Rattle.std.proofs.Common.{◌≡◌, ℕ, suc, ◌+◌, ◌<◌, ◌≤◌, List, [], ◌∷◌, ◌++◌, length, map, get_or, take, sym, ap, ap₂, subst, ◌∙◌, arith}
 use Rattle.std.specs.Prelude.{All}
 use Rattle.std.proofs.lemmas.List.{map-append, take_all, get_or_read, get_or-map, take_more, length-map, length-take-le}
 use Rattle.alg_core.specs.Fields.{FieldOn, Has, Scalar, scalars, scalar, scalar_zero}
 use Rattle.alg_core.specs.Keys.{Key, key}
-use Rattle.alg_core.specs.Vectors.{Vect, vectors, vec, plus, zero_vector}
+use Rattle.alg_core.specs.Vectors.{vectors, vec, plus, zero_vector}
 use Rattle.alg_core.specs.declared.term.Term.{Term}
 use Rattle.alg_core.specs.declared.term.ModTerm.{ModTerm}
 use Rattle.alg_core.specs.Spaces.{SpaceOver, place, entry, entries, IsPlace}

@@ -1,4 +1,4 @@
-use Rattle.std.proofs.Common.{◌≡◌, ◌<◌, ◌≤◌, ◌∙◌, length, arith}
+use Rattle.std.proofs.Common.{◌<◌, ◌≤◌, ◌∙◌, length, arith}
 use Rattle.alg_core.specs.Fields.{scalars}
 use Rattle.alg_core.specs.SpaceOrder.{key_order}
 use Rattle.alg_core.specs.Spaces.{over}

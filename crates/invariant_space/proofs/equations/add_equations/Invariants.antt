@@ -7,7 +7,6 @@ use Rattle.alg_core.specs.Vectors.{Vect}
 use Rattle.poly_module.specs.Parts.{Supp}
 use Rattle.lin_algebra.specs.Matrices.{IsMatrix}
 use Rattle.lin_algebra.specs.declared.matrix.Matrix.{Matrix}
-use Rattle.matrix_group.specs.Actions.{IsSquare}
 use Rattle.invariant_space.specs.Equations.{IsMonomialList, coordinates, Solves}
 use Rattle.invariant_space.specs.Images.{AreImages}
 use Rattle.invariant_space.proofs.EquationLaws.{FixedBelow}

@@ -1,4 +1,4 @@
-use Rattle.std.proofs.Common.{◌<◌, ◌∙◌, ap, length, get_or, subst, sym, arith, Vec, Global}
+use Rattle.std.proofs.Common.{◌<◌, ◌∙◌, ap, length, subst, sym, arith, Vec, Global}
 use Rattle.lin_algebra.specs.Vectors.{IsRow, vector}
 use Rattle.invariant_space.proofs.EquationLaws.{entry_same, entry_other}
 use Rattle.invariant_space.proofs.Places.{read_twice}

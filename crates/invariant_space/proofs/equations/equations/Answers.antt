@@ -1,5 +1,4 @@
-use Rattle.std.proofs.Common.{◌≡◌, ◌<◌, ◌∙◌, ap, length, get_or, refl, sym, subst, arith, All}
-use Rattle.alg_core.specs.Spaces.{over}
+use Rattle.std.proofs.Common.{◌<◌, ◌∙◌, ap, length, refl, sym, subst, arith, All}
 use Rattle.lin_algebra.specs.Vectors.{IsRow}
 use Rattle.matrix_group.specs.Actions.{IsSquare}
 use Rattle.invariant_space.specs.Equations.{coordinates, Solves}

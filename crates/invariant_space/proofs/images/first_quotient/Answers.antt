@@ -1,6 +1,6 @@
-use Rattle.std.proofs.Common.{◌≡◌, ◌⊎◌, ◌<◌, ◌≤◌, ◌∙◌, ℕ, inl, inr, ap, subst, sym, arith}
+use Rattle.std.proofs.Common.{◌≡◌, ◌∙◌, ℕ, inl, inr, ap, subst, sym, arith}
 use Rattle.std.proofs.lemmas.Bool.{cases_lt}
-use Rattle.alg_core.specs.Keys.{Key, times_key}
+use Rattle.alg_core.specs.Keys.{times_key}
 use Rattle.poly_module.specs.MonomialVariables.{variable}
 use Rattle.invariant_space.specs.Images.{IsQuotient}
 use Rattle.invariant_space.proofs.QuotientLaws.{table_at, table_within}

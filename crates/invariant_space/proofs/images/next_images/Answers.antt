@@ -1,6 +1,4 @@
 use Rattle.std.proofs.Common.{◌≡◌, ◌<◌, length, get_or, sym, subst, arith}
-use Rattle.alg_core.specs.Keys.{Key}
-use Rattle.alg_core.specs.Spaces.{over}
 use Rattle.lin_algebra.specs.declared.matrix.Matrix.{Matrix}
 use Rattle.invariant_space.specs.Images.{AreImages}
 use Rattle.invariant_space.proofs.Places.{at_more, length_more, read_twice}

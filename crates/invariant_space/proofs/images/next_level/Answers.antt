@@ -1,4 +1,4 @@
-use Rattle.std.proofs.Common.{◌≡◌, ◌<◌, ◌∙◌, ℕ, ap, length, get_or, sym, subst, arith}
+use Rattle.std.proofs.Common.{◌≡◌, ◌∙◌, ℕ, ap, length, get_or, sym, subst, arith}
 use Rattle.alg_core.specs.Spaces.{over}
 use Rattle.invariant_space.specs.Images.{AllImages}
 use Rattle.invariant_space.specs.Monomials.{AreSums, keys_of}

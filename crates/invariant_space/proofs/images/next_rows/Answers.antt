@@ -1,4 +1,4 @@
-use Rattle.std.proofs.Common.{◌≡◌, ◌<◌, ◌+◌, ◌∙◌, ℕ, List, Vec, Global, ap, length, get_or, sym, subst, arith, rules}
+use Rattle.std.proofs.Common.{◌≡◌, ◌<◌, ◌∙◌, ℕ, List, ap, length, get_or, sym, subst, arith, rules}
 use Rattle.std.specs.Prelude.{All, IfSome, Some}
 use Rattle.alg_core.specs.Fields.{Has}
 use Rattle.alg_core.specs.Keys.{Key}

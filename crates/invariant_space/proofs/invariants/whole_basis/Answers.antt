@@ -1,4 +1,4 @@
-use Rattle.std.proofs.Common.{◌≡◌, ◌∙◌, ap, length, sym, subst, arith}
+use Rattle.std.proofs.Common.{◌∙◌, ap, length, sym, subst, arith}
 use Rattle.alg_core.specs.Spaces.{over}
 use Rattle.invariant_space.specs.InvariantSpaces.{IsEchelonBasis}
 use Rattle.invariant_space.specs.Monomials.{keys_of}

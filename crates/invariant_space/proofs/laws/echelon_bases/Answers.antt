@@ -1,6 +1,5 @@
 use Rattle.alg_core.specs.Spaces.{over}
 use Rattle.invariant_space.proofs.EchelonBasis.{echelon_basis_unique}
-use Rattle.invariant_space.proofs.RowSteps.{rows_whole}
 use Rattle.invariant_space.proofs.laws.echelon_bases.Goals as goal
 
 pub returns : goal.returns

@@ -1,4 +1,4 @@
-use Rattle.std.proofs.Common.{All, sym, subst, arith}
+use Rattle.std.proofs.Common.{All, sym, subst}
 use Rattle.std.proofs.lemmas.List.Elements.{All-push}
 use Rattle.alg_core.specs.Spaces.{over}
 use Rattle.poly_module.specs.SpaceVectors.{IsPoly}

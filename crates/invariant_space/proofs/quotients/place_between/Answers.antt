@@ -1,6 +1,6 @@
-use Rattle.std.proofs.Common.{◌≡◌, ◌⊎◌, ◌<◌, ◌≤◌, ◌∙◌, ℕ, inl, inr, ap, get_or, length, sym, subst, arith}
+use Rattle.std.proofs.Common.{◌≡◌, ◌<◌, ◌∙◌, ℕ, inl, inr, ap, get_or, length, sym, arith}
 use Rattle.std.proofs.lemmas.Bool.{cases_lt}
-use Rattle.alg_core.specs.Keys.{Key, key, key_injective}
+use Rattle.alg_core.specs.Keys.{key, key_injective}
 use Rattle.alg_core.specs.Spaces.{over}
 use Rattle.poly_module.proofs.EntryLists.{entry_at}
 use Rattle.poly_module.proofs.LookupSteps.{other_place}

@@ -1,8 +1,6 @@
 use Rattle.std.proofs.Common.{◌≡◌, ◌<◌, ◌≤◌, ◌∙◌, ℕ, true, ap, get_or, length, sym, subst, arith}
-use Rattle.std.specs.Prelude.{IfNone, IfSome, None}
-use Rattle.alg_core.specs.Keys.{Key, key, times_key}
-use Rattle.alg_core.specs.Monomials.{mono}
-use Rattle.alg_core.specs.Spaces.{over, IsPlace}
+use Rattle.std.specs.Prelude.{IfNone, IfSome}
+use Rattle.alg_core.specs.Keys.{Key, key}
 use Rattle.invariant_space.specs.Monomials.{keys_of}
 use Rattle.invariant_space.proofs.Places.{length_keys}
 use Rattle.invariant_space.proofs.QuotientLaws.{not_divided, quotient_found, quotient_sought, key_position}

@@ -1,5 +1,5 @@
-use Rattle.std.proofs.Common.{◌≡◌, ◌<◌, ◌+◌, ◌∙◌, ap, get_or, length, sym, subst, arith}
-use Rattle.alg_core.specs.Keys.{Key, key}
+use Rattle.std.proofs.Common.{◌≡◌, ◌<◌, ◌∙◌, ap, get_or, length, sym, subst, arith}
+use Rattle.alg_core.specs.Keys.{Key}
 use Rattle.alg_core.specs.Spaces.{over}
 use Rattle.poly_module.proofs.EntryLists.{entry_at, given_at}
 use Rattle.invariant_space.specs.Images.{IsQuotient}

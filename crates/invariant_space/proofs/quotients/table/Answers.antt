@@ -1,4 +1,4 @@
-use Rattle.std.proofs.Common.{◌≡◌, ◌+◌, ◌∙◌, ap, length, length-set, arith}
+use Rattle.std.proofs.Common.{ap, length, length-set, arith}
 use Rattle.std.proofs.lemmas.List.{length-replicate}
 use Rattle.poly_module.proofs.ConstantSteps.{mono_set}
 use Rattle.matrix_group.proofs.ActionSteps.{key_variable}
