@@ -1,5 +1,5 @@
 -- The kernel of the equations gives the echelon basis of the invariants, and there is one such basis.
-use Rattle.std.proofs.Common.{◌≡◌, ◌↔◌, ℕ, ◌≤◌, List, [], ◌∷◌, length, map, replicate, All, sym, ap, ◌∙◌, refl, subst, arith}
+use Rattle.std.proofs.Common.{◌≡◌, ◌↔◌, ℕ, ◌≤◌, List, [], ◌∷◌, length, map, replicate, sym, ap, ◌∙◌, refl, subst, arith}
 use Rattle.std.proofs.lemmas.List.{length-map}
 use Rattle.std.specs.List.{zip, AllByRecursion as Each}
 use Rattle.alg_core.specs.Rings.{Ring}
@@ -21,13 +21,14 @@ use Rattle.lin_algebra.specs.Matrices.{rows_of, vectors_of, IsKernelVector}
 use Rattle.lin_algebra.proofs.SpanLaws.{span_member}
 use Rattle.lin_algebra.proofs.EachLaws.{Each_weaker, Each_of_map}
 use Rattle.lin_algebra.proofs.CutLaws.{length_cut}
-use Rattle.matrix_group.specs.Actions.{IsSquare}
+use Rattle.matrix_group.specs.Actions.{Invariant}
 use Rattle.matrix_group.proofs.ActionLaws.{act_linear}
 use Rattle.matrix_group.proofs.InvariantLaws.{invariant_zero, invariant_plus}
 use Rattle.invariant_space.specs.InvariantSpaces.{IsInvariantForm, IsEchelonBasis}
-use Rattle.invariant_space.specs.Equations.{IsMonomialList, row_polynomial, coordinates, IsEquations}
+use Rattle.invariant_space.specs.Equations.{IsMonomialList, row_polynomial, coordinates, AreEquations}
 use Rattle.invariant_space.proofs.EchelonRows.{echelon_rows}
-use Rattle.invariant_space.proofs.InvariantEquations.{invariant_keys, invariant_equations}
+use Rattle.invariant_space.proofs.EquationLaws.{kernel_solves}
+use Rattle.invariant_space.proofs.ImageLaws.{invariant_keys, keys_form, keys_variables}
 
 -- the rows of a list of pivots and rows
 rows_zip : {K : Type 0} (R : Ring K) (ps : List ℕ) (vs : List (ℕ → K)) → length ps ≡ length vs → rows R (zip ps vs) ≡ vs
@@ -65,12 +66,11 @@ module _ {E : Type 0} (S : SpaceOver E) (gens : List (Matrix E)) (d : ℕ) where
   echelon_basis_unique = echelon_unique S.field (key_order S) (IsInvariantForm S.field (length S.weights) gens d) (invariant_subspace S.field (length S.weights) gens d)
 
   -- The rows of a matrix in reduced echelon form that span the kernel of the equations are the echelon basis.
-  pub basis_of_kernel : (ts : List Key) → IsMonomialList (key_order S) (length S.weights) d ts → All (IsSquare S.field (length S.weights)) gens
-      → (a b : Matrix E) → IsEquations S.field ts gens a
+  pub basis_of_kernel : (ts : List Key) → IsMonomialList (key_order S) (length S.weights) d ts → (a b : Matrix E) → AreEquations S.field ts (Invariant S.field gens) a
       → (ps : List ℕ) × (length ps ≡ b.rows) × IsReducedEchelon (scalars S.field) (zip ps (vectors_of S.field b))
       → ((v : ℕ → Scalar S.field) → InSpan (columns (scalars S.field)) (vectors_of S.field b) v ↔ IsKernelVector S.field a v)
       → IsEchelonBasis S gens d (map (row_polynomial S.field ts) (vectors_of S.field b))
-  basis_of_kernel ts monomials square a b equations pivots kernel = subst (λ vs. IsEchelonBasis S gens d (map (row_polynomial k ts) vs)) rows_are
+  basis_of_kernel ts monomials a b equations pivots kernel = subst (λ vs. IsEchelonBasis S gens d (map (row_polynomial k ts) vs)) rows_are
       (echelon_rows k (key_order S) ts monomials.falls l pivots.2 past (IsInvariantForm k n gens d) (invariant_keys k n (key_order S) d ts monomials gens) same)
     where
       n : ℕ
@@ -91,6 +91,8 @@ module _ {E : Type 0} (S : SpaceOver E) (gens : List (Matrix E)) (d : ℕ) where
 
       same : (f : Vect k) → Supp k (λ t. In t ts) f → (IsInvariantForm k n gens d f ↔ InSpan (columns (scalars k)) (rows (scalars k) l) (coordinates k ts f))
       same f keys =
-          let both = invariant_equations k n (key_order S) d ts monomials gens a equations square f keys in
+          let rows = kernel_solves k a ts f equations.cols in
+          let fixed = equations.solves f keys in
           let solves = kernel (coordinates k ts f) in
-          subst (λ vs. IsInvariantForm k n gens d f ↔ InSpan (columns (scalars k)) vs (coordinates k ts f)) (sym rows_are) (λ h. solves.1 (both.0 h), λ h. both.1 (solves.0 h))
+          subst (λ vs. IsInvariantForm k n gens d f ↔ InSpan (columns (scalars k)) vs (coordinates k ts f)) (sym rows_are)
+          (λ h. solves.1 (rows.1 (fixed.1 h.invariant)), λ h. record { form = keys_form k n (key_order S) d ts monomials f keys; variables = keys_variables k n (key_order S) d ts monomials f keys; invariant = fixed.0 (rows.0 (solves.0 h)) })

@@ -7,6 +7,7 @@ use native.Mathlib.Decide.{dec_le}
 use Rattle.alg_core.specs.Fields.{FieldOn, Scalar, scalars, is_field}
 use Rattle.alg_core.specs.Monomials.{monomials}
 use Rattle.alg_core.specs.Keys.{Key}
+use Rattle.alg_core.specs.KeyLists.{Falls}
 use Rattle.alg_core.specs.KeyOrders.{OrderOn}
 use Rattle.alg_core.specs.Lists.{In}
 use Rattle.alg_core.specs.Vectors.{Vect, vectors, coef_at}
@@ -19,9 +20,10 @@ use Rattle.poly_module.proofs.Echelon as echelon
 use Rattle.lin_algebra.specs.Vectors.{vectors as columns}
 use Rattle.alg_core.specs.Spans.{InSpan}
 use Rattle.lin_algebra.specs.Echelons.{PivotRow, rows, IsPivotRow, Precedes, IsReducedEchelon}
+use Rattle.lin_algebra.proofs.EachLaws.{Each_at}
 use Rattle.lin_algebra.proofs.SpanLaws.{span_member}
-use Rattle.invariant_space.specs.Equations.{Falls, row_polynomial, coordinates}
-use Rattle.invariant_space.proofs.RowPolynomials.{each_in, falls_at, row_polynomial_linear, row_keys, coef_row, coordinates_row_all, row_coordinates, row_lead}
+use Rattle.invariant_space.specs.Equations.{row_polynomial, coordinates}
+use Rattle.invariant_space.proofs.RowPolynomials.{falls_at, row_polynomial_linear, row_keys, coef_row, coordinates_row_all, row_coordinates, row_lead}
 
 module _ {E : Type 0} (k : FieldOn E) (o : OrderOn Key) where
   -- a reduced echelon list of a set is one of each smaller set that has its members
@@ -124,9 +126,9 @@ module _ {E : Type 0} (k : FieldOn E) (o : OrderOn Key) where
         inside : (v : Vect k) → In v (polynomials l) → U v
         inside v i =
             let w = row_of_polynomial l v i in
-            let is = coordinates_row_all k o ts falls w.0 (each_in Past (rows (scalars k) l) (past_rows l past) w.0 w.1) in
+            let is = coordinates_row_all k o ts falls w.0 (Each_at Past (rows (scalars k) l) (past_rows l past) w.0 w.1) in
             subst U w.2 ((same _ (row_keys k ts w.0)).1 (subst (InSpan (columns (scalars k)) (rows (scalars k) l)) (sym is)
-            (each_in (InSpan (columns (scalars k)) (rows (scalars k) l)) (rows (scalars k) l) (span_member (columns (scalars k)) (rows (scalars k) l)) w.0 w.1)))
+            (Each_at (InSpan (columns (scalars k)) (rows (scalars k) l)) (rows (scalars k) l) (span_member (columns (scalars k)) (rows (scalars k) l)) w.0 w.1)))
 
         within : (v : Vect k) → U v → Spans k (polynomials l) v
         within v u =

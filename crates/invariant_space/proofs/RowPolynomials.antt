@@ -1,7 +1,6 @@
 -- Polynomials from their coefficients at a falling list of keys, and back.
 use Rattle.std.proofs.Common.{◌≡◌, ℕ, zero, suc, ◌<◌, ◌≤◌, inl, inr, List, [], ◌∷◌, length, slice_index_or, sym, ap, ap₂, ◌∙◌, refl, subst, arith}
 use Rattle.std.proofs.lemmas.List.{get_or_default}
-use Rattle.std.specs.List.{AllByRecursion as Each}
 use Rattle.std.specs.declared.cmp.Ordering.TheVariants.{Less}
 use native.Mathlib.Decide.{ℕ_discrete, dec_le}
 use Rattle.alg_core.specs.Rings.{Linear}
@@ -9,6 +8,7 @@ use Rattle.alg_core.specs.RingLaws as rings
 use Rattle.alg_core.specs.ModuleLaws as modules
 use Rattle.alg_core.specs.Fields.{FieldOn, Scalar, scalars}
 use Rattle.alg_core.specs.Keys.{Key, key_same}
+use Rattle.alg_core.specs.KeyLists.{Falls}
 use Rattle.alg_core.specs.KeyOrders.{OrderOn, less_irreflexive, less_asymmetric}
 use Rattle.alg_core.specs.Lists.{In}
 use Rattle.alg_core.specs.CanonicalLists.{indicator_yes, indicator_no}
@@ -20,29 +20,8 @@ use Rattle.poly_module.specs.Modules.{LeadBy}
 use Rattle.poly_module.proofs.EchelonLists.{coef_at_act}
 use Rattle.lin_algebra.specs.Vectors.{unit, vectors as columns}
 use Rattle.lin_algebra.proofs.DotLaws.{unit_at, unit_other}
-use Rattle.invariant_space.specs.Equations.{Falls, row_polynomial, coordinates}
-
--- what holds of each element holds of a member
-pub each_in : {X : Type 0} (P : X → Type 0) (l : List X) → Each P l → (x : X) → In x l → P x
-each_in P [] h x i = absurd i
-each_in P (y ∷ l) h x (inl e) = subst P e h.0
-each_in P (y ∷ l) h x (inr i) = each_in P l h.1 x i
-
--- the element at a place, and the place of an element
-pub element_at : {X : Type 0} (l : List X) (p : ℕ) → p < length l → (x : X) × (slice_index_or l p x ≡ x)
-element_at [] p h = absurd (omega arith)
-element_at (y ∷ l) zero h = (y, refl)
-element_at (y ∷ l) (suc p) h = element_at l p (omega arith)
-
-pub element_in : {X : Type 0} (l : List X) (p : ℕ) (x : X) → p < length l → slice_index_or l p x ≡ x → In x l
-element_in [] p x h e = absurd (omega arith)
-element_in (y ∷ l) zero x h e = inl e
-element_in (y ∷ l) (suc p) x h e = inr (element_in l p x (omega arith) e)
-
-pub place_in : {X : Type 0} (l : List X) (x : X) → In x l → (p : ℕ) × (p < length l) × (slice_index_or l p x ≡ x)
-place_in [] x i = absurd i
-place_in (y ∷ l) x (inl e) = (0, omega arith, e)
-place_in (y ∷ l) x (inr i) = let r = place_in l x i in (suc r.0, (let h = r.1 in omega arith), r.2)
+use Rattle.invariant_space.specs.Equations.{row_polynomial, coordinates}
+use Rattle.invariant_space.proofs.Places.{element_in, place_in}
 
 -- whether a key is in a list
 pub in_keys : (t : Key) (l : List Key) → Dec (In t l)
@@ -61,13 +40,13 @@ in_keys t (s ∷ l) = go (key_same s t) (in_keys t l)
 module _ (o : OrderOn Key) where
   -- the first key is not a later one
   pub not_later : (t : Key) (ts : List Key) → Falls o (t ∷ ts) → (s : Key) → In s ts → ¬ (t ≡ s)
-  not_later t ts falls s i e = less_irreflexive o s t (sym e) (each_in (λ s. o.compare s t ≡ Less) ts falls.0 s i)
+  not_later t ts falls s i e = less_irreflexive o s t (sym e) (falls.0 s i)
 
   -- a key at a later place is smaller
   pub falls_at : (ts : List Key) → Falls o ts → (p q : ℕ) (s t : Key) → p < q → q < length ts → slice_index_or ts p s ≡ s → slice_index_or ts q t ≡ t → o.compare t s ≡ Less
   falls_at [] falls p q s t h g e f = absurd (omega arith)
   falls_at (u ∷ ts) falls p zero s t h g e f = absurd (omega arith)
-  falls_at (u ∷ ts) falls zero (suc q) s t h g e f = subst (λ s. o.compare t s ≡ Less) e (each_in (λ s. o.compare s u ≡ Less) ts falls.0 t (element_in ts q t (omega arith) f))
+  falls_at (u ∷ ts) falls zero (suc q) s t h g e f = subst (λ s. o.compare t s ≡ Less) e (falls.0 t (element_in ts q t (omega arith) f))
   falls_at (u ∷ ts) falls (suc p) (suc q) s t h g e f = falls_at ts falls.1 p q s t (omega arith) (omega arith) e f
 
 module _ {E : Type 0} (k : FieldOn E) where
@@ -130,10 +109,10 @@ module _ {E : Type 0} (k : FieldOn E) where
   coordinates_none (s ∷ ts) f e zero = e s (inl refl)
   coordinates_none (s ∷ ts) f e (suc l) = coordinates_none ts f (λ t i. e t (inr i)) l
 
-  coef_single_same : (s t : Key) → s ≡ t → coef_at k (single_vector k s) t ≡ (scalars k).one
+  pub coef_single_same : (s t : Key) → s ≡ t → coef_at k (single_vector k s) t ≡ (scalars k).one
   coef_single_same s t e = coef_at_single k s t ∙ indicator_yes (scalars k) (key_same s t) e
 
-  coef_single_other : (s t : Key) → ¬ (s ≡ t) → coef_at k (single_vector k s) t ≡ nought
+  pub coef_single_other : (s t : Key) → ¬ (s ≡ t) → coef_at k (single_vector k s) t ≡ nought
   coef_single_other s t n = coef_at_single k s t ∙ indicator_no (scalars k) (key_same s t) n
 
   module _ (o : OrderOn Key) where

@@ -1,6 +1,4 @@
 pub mod InvariantSpaces
 pub mod Equations
-pub mod Columns
-pub mod Levels
-pub mod Insertions
-pub mod Systems
+pub mod Monomials
+pub mod Images

@@ -8,8 +8,8 @@ ghost use Rattle.invariant_space.specs.InvariantSpaces.{IsEchelonBasis};
 use crate::count::monomial_count;
 use crate::equations::equations;
 use crate::fault::SpaceFault;
+use crate::images::level_of_degree;
 use crate::polynomials::polynomials;
-use crate::sorted::sorted;
 use alg_core::{Field, Memory, Space, TermOrder};
 use lin_algebra::{Matrix, kernel};
 use poly_module::Poly;
@@ -60,9 +60,11 @@ fn whole_basis<F: Field, O: TermOrder>(
     ensures echelon { let S = over F.field O.order space.now in
         IfOk result (λ b. IsEchelonBasis S gens.now d (vectors_of S (λ m. m) b.items)) }
 {
-    let columns = sorted(alloc, space, gens, d)?;
-    let equations = equations(alloc, space, gens, columns.as_slice())?;
+    let level = level_of_degree(alloc, space, gens, d)?;
+    let monomials = &level.sums[space.grading.weights.len()];
+    let count = monomials.terms().len();
+    let equations = equations(alloc, space, gens, &level.images, count)?;
     let kernel = kernel(alloc, &space.field, &equations)?;
-    let basis = polynomials(alloc, space, columns.as_slice(), &kernel)?;
+    let basis = polynomials(alloc, space, monomials, &kernel)?;
     Ok(basis)
 }

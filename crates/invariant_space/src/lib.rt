@@ -1,15 +1,15 @@
 //! The echelon basis of the invariants of one degree.
 #![tactic(auto)]
 
-mod columns;
 mod count;
 mod equations;
 mod fault;
+mod images;
 mod invariants;
 mod laws;
-mod levels;
+mod monomials;
 mod polynomials;
-mod sorted;
+mod quotients;
 
 pub use fault::SpaceFault;
 pub use invariants::basis;

@@ -1,50 +1,64 @@
-use Rattle.std.proofs.Common.{◌≡◌, ◌+◌, ◌*◌, ap, length, subst, sym, arith}
-use Rattle.alg_core.specs.Spaces.{over}
-use Rattle.invariant_space.specs.Systems.{IsSystem}
-use Rattle.invariant_space.proofs.RowPolynomials.{element_at}
-use Rattle.invariant_space.proofs.BlockLaws.{block_rows, system_none, system_step, system_next, system_whole, product_is}
+use Rattle.std.proofs.Common.{◌<◌, ◌∙◌, ap, length, refl, sym, subst, arith, All}
+use Rattle.lin_algebra.specs.Vectors.{IsRow}
+use Rattle.matrix_group.specs.Actions.{IsSquare}
+use Rattle.invariant_space.specs.Equations.{coordinates, Solves}
+use Rattle.invariant_space.specs.Images.{AreImages}
+use Rattle.invariant_space.proofs.EquationLaws.{invariant_more, invariant_all}
+use Rattle.invariant_space.proofs.ImageLaws.{image_rows}
+use Rattle.invariant_space.proofs.Places.{element_at}
 use Rattle.invariant_space.proofs.equations.equations.Goals as goal
 
 pub loop-i-init : goal.loop-i-init
-loop-i-init g c = system_none (over g.F.Field.field g.O.TermOrder.order c.args.space.now) c.args.columns.now c.args.gens.now _ c.new-cells.result.items (omega arith) c.new-cells.ensures.items
+loop-i-init g c =
+    let n = ap length c.new.ensures.items in
+    record { matrix = record { whole = omega arith; has = λ i d h. absurd (omega arith) }; cols = refl; solves = λ d ts f monomials many images keys. (λ z j m low e. absurd (omega arith), λ z. tt) }
 
-pub equation-requires-clause-rows : goal.equation-requires-clause-rows
-equation-requires-clause-rows g c =
-    let S = over g.F.Field.field g.O.TermOrder.order c.args.space.now in
-    let m = (element_at c.args.gens.now c.loop-i.i c.loop-i-test.true).0 in
-    block_rows S c.args.columns.now m c.in_ok-block.block.items c.deref.result.now c.deref.ensures.value (c.in_ok-block.ensures.block m (sym (element_at c.args.gens.now c.loop-i.i c.loop-i-test.true).1))
+pub add_equations-requires-clause-rows : goal.add_equations-requires-clause-rows
+add_equations-requires-clause-rows g c =
+    let k = g.F.Field.field c.args.space.now.field in
+    let r = c.requires.images in
+    let n = r.4.count in
+    let m = element_at c.args.gens.now c.loop-i.i c.loop-i-test.true in
+    let low : c.loop-i.i < length c.args.images.now = omega (arith, c.loop-i-test.true) in
+    subst (λ l. All (λ v. IsRow k (length l) v.items) l) (sym c.deref.ensures.value) (image_rows k m.0 r.1 c.index-images-i.result.items (r.4.each c.loop-i.i c.index-images-i.result low c.index-images-i.is m.0 (sym m.1)))
 
-pub equation-requires-clause-row : goal.equation-requires-clause-row
-equation-requires-clause-row g c = omega (arith, c.deref.ensures.len, c.len-s-end.ensures, c.loop-s-test.true)
-
-pub loop-s-init : goal.loop-s-init
-loop-s-init g c =
-    let S = over g.F.Field.field g.O.TermOrder.order c.args.space.now in
-    let same : c.loop-i.i * length c.args.columns.now ≡ c.loop-i.i * length c.args.columns.now + 0 = omega arith in
-    subst (λ q. IsSystem S c.args.columns.now c.args.gens.now q c.loop-i.cells.items) same c.loop-i.invariant
-
-pub loop-s-preserved : goal.loop-s-preserved
-loop-s-preserved g c =
-    let S = over g.F.Field.field g.O.TermOrder.order c.args.space.now in
-    let m = (element_at c.args.gens.now c.loop-i.i c.loop-i-test.true).0 in
-    let read = (sym (element_at c.args.gens.now c.loop-i.i c.loop-i-test.true).1) in
-    system_step S c.args.columns.now c.args.gens.now c.loop-i.i c.loop-s.s _ m c.in_ok-block.block.items c.deref.result.now c.in_ok-row.row.items c.deref-in-loop-s.result.now c.loop-s.cells.items c.extend_from_slice.new.self.items
-    c.requires.monomials.1.falls c.loop-i-test.true read c.deref.ensures.value (omega (arith, c.deref.ensures.len, c.len-s-end.ensures, c.loop-s-test.true)) (c.in_ok-block.ensures.block m read) c.in_ok-row.ensures.row c.in_ok-row.ensures.entry
-    c.in_ok-extend_from_slice.ensures.items c.deref-in-loop-s.ensures.value (omega arith) c.loop-s.invariant
+pub add_equations-requires-clause-cols : goal.add_equations-requires-clause-cols
+add_equations-requires-clause-cols g c =
+    let r = c.requires.images in
+    let n = r.4.count in
+    let m = element_at c.args.gens.now c.loop-i.i c.loop-i-test.true in
+    let low : c.loop-i.i < length c.args.images.now = omega (arith, c.loop-i-test.true) in
+    c.loop-i.invariant.cols ∙ sym r.3 ∙ sym (r.4.each c.loop-i.i c.index-images-i.result low c.index-images-i.is m.0 (sym m.1)).count ∙ sym (ap length c.deref.ensures.value)
 
 pub loop-i-preserved : goal.loop-i-preserved
 loop-i-preserved g c =
-    let S = over g.F.Field.field g.O.TermOrder.order c.args.space.now in
-    let m = (element_at c.args.gens.now c.loop-i.i c.loop-i-test.true).0 in
-    let read = (sym (element_at c.args.gens.now c.loop-i.i c.loop-i-test.true).1) in
-    let whole = c.in_ok-block.block.ok.0 in
-    system_next S c.args.columns.now c.args.gens.now c.loop-i.i c.loop-s.s _ m c.in_ok-block.block.items c.loop-s.cells.items (c.in_ok-block.ensures.block m read) (omega (arith, whole, c.len-s-end.ensures, c.loop-s-test.false)) (omega (arith, whole, c.len-s-end.ensures, c.loop-s.auto.s-end)) (omega arith) c.loop-s.invariant
+    let k = g.F.Field.field c.args.space.now.field in
+    let gens = c.args.gens.now in
+    let r = c.requires.images in
+    let n = r.4.count in
+    let m = element_at gens c.loop-i.i c.loop-i-test.true in
+    let low : c.loop-i.i < length c.args.images.now = omega (arith, c.loop-i-test.true) in
+    let many = (r.4.each c.loop-i.i c.index-images-i.result low c.index-images-i.is m.0 (sym m.1)).count in
+    let square = subst (IsSquare k (length c.args.space.now.grading.weights.items)) m.1 (c.requires.square c.loop-i.i m.0 c.loop-i-test.true) in
+    record {
+      matrix = c.in_ok-add_equations.ensures.matrix;
+      cols = c.in_ok-add_equations.ensures.cols ∙ ap length c.deref.ensures.value ∙ many ∙ r.3;
+      solves = λ d ts f monomials many images keys.
+          let im = subst (AreImages k m.0 ts) (sym c.deref.ensures.value) (images.each c.loop-i.i c.index-images-i.result low c.index-images-i.is m.0 (sym m.1)) in
+          invariant_more k gens c.loop-i.i m.0 f (Solves k c.loop-i.system (coordinates k ts f)) (Solves k c.add_equations.new.system (coordinates k ts f)) c.loop-i-test.true (sym m.1) (c.in_ok-add_equations.ensures.fixed d ts m.0 f monomials square im keys)
+          (c.loop-i.invariant.solves d ts f monomials many images keys);
+    }
 
 pub returns : goal.returns
 returns g c =
-    let S = over g.F.Field.field g.O.TermOrder.order c.args.space.now in
-    let all : c.loop-i.i ≡ length c.args.gens.now = omega (arith, c.loop-i-test.false, c.loop-i.auto.i-end) in
+    let k = g.F.Field.field c.args.space.now.field in
     record {
-      equations = system_whole S c.args.columns.now c.args.gens.now (c.loop-i.i * length c.args.columns.now) record { rows = c.in_ok-rows.rows; cols = length c.args.columns.now; cells = c.loop-i.cells } (omega arith)
-          (product_is _ c.checked_mul.result c.in_ok-rows.rows _ c.checked_mul.ensures c.in_ok-rows.ensures.ok_part) (ap (λ n. n * length c.args.columns.now) all) c.loop-i.invariant;
+      equations = λ d ts monomials many images. record {
+        matrix = c.loop-i.invariant.matrix;
+        cols = c.loop-i.invariant.cols ∙ sym many;
+        solves = λ f keys.
+            let both = c.loop-i.invariant.solves d ts f monomials many images keys in
+            let all = invariant_all k c.args.gens.now c.loop-i.i f c.loop-i-test.false c.loop-i.auto.i-end in
+            (λ z. all.0 (both.0 z), λ z. both.1 (all.1 z));
+      };
     }

@@ -1,10 +1,22 @@
-use Rattle.std.proofs.Common.{◌*◌, ◌+◌, length}
+use Rattle.std.proofs.Common.{◌≡◌, ◌↔◌, ℕ, List, length}
+use Rattle.alg_core.specs.Keys.{Key}
+use Rattle.alg_core.specs.Lists.{In}
 use Rattle.alg_core.specs.Spaces.{over}
-use Rattle.invariant_space.specs.Systems.{IsSystem}
+use Rattle.alg_core.specs.SpaceOrder.{key_order}
+use Rattle.alg_core.specs.Vectors.{Vect}
+use Rattle.poly_module.specs.Parts.{Supp}
+use Rattle.lin_algebra.specs.Matrices.{IsMatrix}
+use Rattle.invariant_space.specs.Equations.{IsMonomialList, coordinates, Solves}
+use Rattle.invariant_space.specs.Images.{AllImages}
+use Rattle.invariant_space.proofs.EquationLaws.{InvariantBelow}
 use Rattle.invariant_space.proofs.equations.equations.Given as goal
 
 abbrev pub invariant-loop-i : goal.invariant-loop-i
-invariant-loop-i g l = IsSystem (over g.F.Field.field g.O.TermOrder.order l.space) l.columns l.gens (l.i * length l.columns) l.cells.items
-
-abbrev pub invariant-loop-s : goal.invariant-loop-s
-invariant-loop-s g l = IsSystem (over g.F.Field.field g.O.TermOrder.order l.space) l.columns l.gens (l.i * length l.columns + l.s) l.cells.items
+invariant-loop-i g l =
+    let S = over g.F.Field.field g.O.TermOrder.order l.space in
+    record {
+      matrix : IsMatrix S.field l.system;
+      cols : l.system.cols ≡ l.count;
+      solves : (d : ℕ) (ts : List Key) (f : Vect S.field) → IsMonomialList (key_order S) (length S.weights) d ts → length ts ≡ l.count → AllImages S.field l.gens ts l.images → Supp S.field (λ t. In t ts) f
+          → Solves S.field l.system (coordinates S.field ts f) ↔ InvariantBelow S.field l.gens l.i f;
+    }

@@ -1,12 +1,11 @@
-use Rattle.std.proofs.Common.{subst, arith}
+use Rattle.std.proofs.Common.{All, sym, subst}
+use Rattle.std.proofs.lemmas.List.Elements.{All-push}
 use Rattle.alg_core.specs.Spaces.{over}
+use Rattle.poly_module.specs.SpaceVectors.{IsPoly}
 use Rattle.lin_algebra.specs.Vectors.{IsRow}
 use Rattle.lin_algebra.proofs.CutLaws.{IsRow_row}
-use Rattle.invariant_space.proofs.RowSteps.{rows_none, rows_more, rows_whole}
+use Rattle.invariant_space.proofs.RowSteps.{rows_more, rows_whole}
 use Rattle.invariant_space.proofs.polynomials.polynomials.Goals as goal
-
-pub loop-i-init : goal.loop-i-init
-loop-i-init g c = rows_none (over g.F.Field.field g.O.TermOrder.order c.args.space.now) c.args.columns.now c.args.a.now c.new-polynomials.result.items c.new-polynomials.ensures.items
 
 pub polynomial-requires-clause-row : goal.polynomial-requires-clause-row
 polynomial-requires-clause-row g c =
@@ -16,9 +15,13 @@ polynomial-requires-clause-row g c =
 pub loop-i-preserved : goal.loop-i-preserved
 loop-i-preserved g c =
     let S = over g.F.Field.field g.O.TermOrder.order c.args.space.now in
-    rows_more S c.args.columns.now c.args.a.now c.loop-i.i c.loop-i.polynomials.items c.push.new.self.items c.in_ok-polynomial.field-0 c.row.result.now c.row.ensures.is c.in_ok-push.ensures.items c.in_ok-polynomial.ensures.polynomial c.loop-i.invariant
+    let is = c.in_ok-polynomial.ensures.polynomial in
+    record {
+      polynomials = subst (All (IsPoly S (λ m. m))) (sym c.in_ok-push.ensures.items) (All-push (IsPoly S (λ m. m)) c.loop-i.polynomials.items c.in_ok-polynomial.field-0 c.loop-i.invariant.polynomials (record { fits = is.fits; position = is.position }));
+      are = rows_more S c.args.monomials.now c.args.a.now c.loop-i.i c.loop-i.polynomials.items c.push.new.self.items c.in_ok-polynomial.field-0 c.row.result.now c.loop-i-test.true c.row.ensures.is c.in_ok-push.ensures.items is c.loop-i.invariant.are;
+    }
 
 pub returns-clause-are : goal.returns-clause-are
 returns-clause-are g c =
     let S = over g.F.Field.field g.O.TermOrder.order c.args.space.now in
-    rows_whole S c.args.columns.now c.args.a.now c.loop-i.i c.loop-i.polynomials.items (omega (arith, c.loop-i-test.false, c.loop-i.auto.i-end)) c.loop-i.invariant
+    rows_whole S c.args.monomials.now c.args.a.now c.loop-i.i c.loop-i.polynomials.items c.loop-i-test.false c.loop-i.invariant.are
