@@ -5,7 +5,7 @@
 --   IsMarkSpace S n ds         n variables of degree 1 and marks of the degrees ds, by their block order, with position 0 of shift 0
 --   HasMark n t                the key t has a variable after the first n: a mark
 --   ArePositiveForms k n ds θ  θ are homogeneous polynomials in n variables, of the positive degrees ds
-use Rattle.std.specs.Prelude.{◌≡◌, ◌<◌, ◌≤◌, ℕ, List, ◌++◌, All, length, replicate}
+use Rattle.std.specs.Prelude.{◌≡◌, ◌<◌, ℕ, List, ◌++◌, All, length, replicate}
 use Rattle.alg_core.specs.Fields.{FieldOn}
 use Rattle.alg_core.specs.Keys.{Key}
 use Rattle.alg_core.specs.Vectors.{Vect}

@@ -5,3 +5,4 @@ mod power;
 mod verification;
 
 pub use power::Power;
+pub use verification::verify;

@@ -1,4 +1,4 @@
-use Rattle.std.proofs.Common.{◌<◌, ◌≤◌, ℕ, refl, sym, subst, ◌∙◌}
+use Rattle.std.proofs.Common.{◌<◌, ◌≤◌, ℕ, refl, subst, ◌∙◌}
 use Rattle.finite_certificate.proofs.MarkTests.{marked, unmarked, exponent_at, one_more, all_zero}
 use Rattle.finite_certificate.proofs.verification.has_mark.Goals as goal
 

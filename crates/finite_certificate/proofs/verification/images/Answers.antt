@@ -1,8 +1,7 @@
-use Rattle.std.proofs.Common.{◌≡◌, ◌∙◌, ◌++◌, get_or, sym, ap, subst, take, arith}
-use Rattle.poly_module.specs.SpaceVectors.{vectors_of}
+use Rattle.std.proofs.Common.{arith}
 use Rattle.poly_module.specs.Variables.{variables}
 use Rattle.finite_certificate.specs.MarkSpaces.{mark_space}
-use Rattle.finite_certificate.proofs.ImageSteps.{no_images, AreImages, image_variable, image_copy, first_copies, all_copies}
+use Rattle.finite_certificate.proofs.ImageSteps.{no_images, image_variable, image_copy, first_copies, all_copies}
 use Rattle.finite_certificate.proofs.verification.images.Goals as goal
 
 pub loop-i-init : goal.loop-i-init
