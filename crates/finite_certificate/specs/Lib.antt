@@ -1,0 +1,4 @@
+pub mod Ideals
+pub mod MarkSpaces
+pub mod StandardMonomials
+pub mod Finiteness
