@@ -1,5 +1,5 @@
 -- The columns of one more polynomial, for the polynomials of a call.
-use Rattle.std.proofs.Common.{◌≡◌, ℕ, ◌+◌, ◌-◌, ◌<◌, ◌≤◌, List, [], ◌++◌, length, map, get_or, refl, sym, ap, subst, ◌∙◌, arith}
+use Rattle.std.proofs.Common.{◌≡◌, ℕ, ◌+◌, ◌-◌, ◌<◌, ◌≤◌, List, [], ◌++◌, length, map, get_or, sym, subst, ◌∙◌, arith}
 use Rattle.std.specs.Prelude.{All}
 use Rattle.std.proofs.lemmas.List.{length-map}
 use Rattle.alg_core.specs.Spaces.{SpaceOver}
@@ -9,7 +9,7 @@ use Rattle.poly_module.specs.Sizes.{HasRoom}
 use Rattle.poly_module.specs.SpaceVectors.{vector_of, vectors_of, IsPoly}
 use Rattle.invariant_space.specs.Columns.{IsImage}
 use Rattle.secondary_gens.specs.Columns.{AreLevels, IsLevel, IsColumnPart, key_of, keys_of}
-use Rattle.secondary_gens.specs.Forms.{degree_of, degrees_of, IsSmallForm, IsPositiveForm}
+use Rattle.secondary_gens.specs.Forms.{degree_of, degrees_of, IsSmallForm}
 use Rattle.secondary_gens.specs.declared.columns.Column.{Column}
 use Rattle.secondary_gens.proofs.FormDegrees.{degree_at, vector_at, form_image}
 use Rattle.secondary_gens.proofs.ColumnSteps.{level_polynomials, level_room, level_wide, part_more, part_skip}

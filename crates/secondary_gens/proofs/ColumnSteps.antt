@@ -5,7 +5,6 @@ use Rattle.std.specs.declared.cmp.Ordering.TheVariants.{Less}
 use Rattle.std.proofs.lemmas.Bool.{cases_lt}
 use Rattle.std.proofs.lemmas.List.{take_more, take_all, map-append, append-nil, length-map}
 use Rattle.std.proofs.lemmas.List.Elements.{All-nil, All-head, All-tail, All-push}
-use Rattle.alg_core.specs.ExponentLists.{product as list_product, Within}
 use Rattle.alg_core.specs.DpOrder.{dp_order}
 use Rattle.alg_core.specs.KeyLists.{Falls}
 use Rattle.alg_core.specs.KeyOrders.{OrderOn, less_asymmetric, less_irreflexive}
@@ -16,8 +15,8 @@ use Rattle.alg_core.specs.Lists.{In, in_left, in_right, map_in}
 use Rattle.alg_core.specs.Monomials.{Mon, mono}
 use Rattle.alg_core.specs.SpaceGrading.{weight, height}
 use Rattle.alg_core.specs.SpaceOrder.{key_alike}
-use Rattle.alg_core.specs.Spaces.{SpaceOver, entries, place}
-use Rattle.alg_core.specs.Vectors.{Vect, vec}
+use Rattle.alg_core.specs.Spaces.{SpaceOver}
+use Rattle.alg_core.specs.Vectors.{Vect}
 use Rattle.alg_core.specs.declared.term.Term.{Term}
 use Rattle.alg_core.proofs.Members.{in_cases, from_map}
 use Rattle.alg_core.proofs.MonomialLists.{length_mono}

@@ -1,23 +1,20 @@
 -- The degree of a homogeneous polynomial by its first term, and homogeneous polynomials as forms.
-use Rattle.std.proofs.Common.{◌≡◌, ◌≢◌, ℕ, zero, suc, ◌+◌, ◌<◌, ◌≤◌, List, [], ◌∷◌, ◌++◌, length, map, get_or, take, replicate, refl, sym, ap, subst, ◌∙◌, arith}
+use Rattle.std.proofs.Common.{◌≡◌, ℕ, zero, suc, ◌+◌, ◌<◌, ◌≤◌, List, [], ◌∷◌, ◌++◌, length, get_or, take, refl, sym, ap, subst, ◌∙◌, arith}
 use Rattle.std.specs.Prelude.{All}
-use Rattle.std.proofs.lemmas.List.{take_more, take_all, map-append, get_or_read}
+use Rattle.std.proofs.lemmas.List.{take_more, map-append, get_or_read}
 use Rattle.std.proofs.lemmas.List.Elements.{All-head, All-tail}
-use Rattle.alg_core.specs.Fields.{FieldOn}
-use Rattle.alg_core.specs.Keys.{Key, key}
-use Rattle.alg_core.specs.Lists.{In}
+use Rattle.alg_core.specs.Keys.{key}
 use Rattle.alg_core.specs.SpaceGrading.{AllPositive}
 use Rattle.poly_module.specs.Modules.{listed}
-use Rattle.alg_core.specs.Spaces.{SpaceOver, Fits, entries, place}
-use Rattle.alg_core.specs.Vectors.{Vect, vec, zero_vector}
+use Rattle.alg_core.specs.Spaces.{SpaceOver, entries}
+use Rattle.alg_core.specs.Vectors.{Vect}
 use Rattle.alg_core.specs.declared.term.Term.{Term}
-use Rattle.poly_module.specs.Forms.{key_weight, OfDegree, IsForm, AreForms}
+use Rattle.poly_module.specs.Forms.{OfDegree, IsForm, AreForms}
 use Rattle.poly_module.specs.GreatestExponents.{total}
-use Rattle.poly_module.specs.Parts.{Supp, IsPolynomial, InVariables}
-use Rattle.poly_module.specs.SpaceVectors.{vector_of, vectors_of, IsPoly, IsPolyOf}
+use Rattle.poly_module.specs.Parts.{Supp}
+use Rattle.poly_module.specs.SpaceVectors.{vector_of, vectors_of}
 use Rattle.poly_module.proofs.ExponentBounds.{fits_keys}
 use Rattle.poly_module.proofs.FittingKeys.{vec_in_variables}
-use Rattle.poly_module.proofs.SpaceVectorLaws.{is_polynomial}
 use Rattle.invariant_space.specs.InvariantSpaces.{IsOfDegree}
 use Rattle.invariant_space.specs.Columns.{IsImage}
 use Rattle.invariant_space.proofs.MonomialDegrees.{of_exponents}

@@ -1,10 +1,8 @@
 -- Invariants over which each invariant is a combination: what they tell of each degree.
-use Rattle.std.proofs.Common.{◌≡◌, ◌⊎◌, inl, inr, ℕ, zero, suc, ◌+◌, ◌<◌, ◌≤◌, List, [], ◌∷◌, ◌++◌, length, map, sym, ap, ap₂, ◌∙◌, refl, subst, arith, eq-eqb}
-use Rattle.std.specs.Prelude.{replicate}
+use Rattle.std.proofs.Common.{◌≡◌, ◌⊎◌, inl, inr, ℕ, zero, suc, ◌+◌, ◌<◌, ◌≤◌, List, [], ◌∷◌, length, map, sym, ap, ◌∙◌, refl, subst, arith, eq-eqb}
 use native.Mathlib.Decide.{dec_le}
-use Rattle.alg_core.specs.Fields.{FieldOn, Scalar, scalars}
 use Rattle.alg_core.specs.Keys.{Key, keys}
-use Rattle.alg_core.specs.KeyLists.{keys_of_degree, InSpace}
+use Rattle.alg_core.specs.KeyLists.{keys_of_degree}
 use Rattle.alg_core.specs.Lists.{In}
 use Rattle.alg_core.specs.SpaceGrading.{AllPositive, weight, height, degree}
 use Rattle.alg_core.specs.SpaceOrder.{key_order}
@@ -13,14 +11,14 @@ use Rattle.alg_core.specs.Vectors.{Vect, vectors, plus, zero_vector}
 use Rattle.alg_core.proofs.KeyLists.{keys_of_degree_exact}
 use Rattle.alg_core.proofs.Members.{from_map}
 use Rattle.alg_core.proofs.SpanLaws.{span_ind}
-use Rattle.poly_module.specs.Combinations.{Over, term_value, combination_degree, combination_value}
+use Rattle.poly_module.specs.Combinations.{Over, term_value, combination_degree}
 use Rattle.poly_module.specs.Echelons.{Spans, IsEchelon}
 use Rattle.poly_module.specs.Forms.{IsForm, AreForms}
 use Rattle.poly_module.specs.Modules.{listed}
-use Rattle.poly_module.specs.Parts.{IsPolynomial, InVariables, Supp, supp_single, supp_product}
-use Rattle.poly_module.specs.Polynomials.{product, vector_ring, one_vector, single_vector}
+use Rattle.poly_module.specs.Parts.{InVariables, supp_single, supp_product}
+use Rattle.poly_module.specs.Polynomials.{product, vector_ring, single_vector}
 use Rattle.poly_module.specs.Products.{product_zero, one_vector_single, ring_product, ring_one}
-use Rattle.poly_module.specs.Substitutions.{power, monomial_value, substitute, substitute_single}
+use Rattle.poly_module.specs.Substitutions.{power, monomial_value, substitute_single}
 use Rattle.poly_module.specs.Variables.{length_mul, length_one}
 use Rattle.poly_module.proofs.CombinationLaws.{over_zero, over_plus, over_act, over_product, over_within, combination_value_form, combination_value_single}
 use Rattle.poly_module.proofs.Echelon.{echelon_exists}

@@ -1,18 +1,15 @@
 -- Forms of degrees that do not fall, none of which is a combination over those before it: none is one over the others.
-use Rattle.std.proofs.Common.{◌≡◌, ◌⊎◌, inl, inr, ℕ, zero, suc, ◌+◌, ◌-◌, ◌<◌, ◌≤◌, List, [], ◌∷◌, ◌++◌, length, map, get_or, take, drop, sym, ap, ap₂, ◌∙◌, refl, subst, arith, append_assoc, eq-eqb}
-use Rattle.std.specs.Prelude.{remove}
-use Rattle.std.specs.List.Sorted.{IsNonDecreasing}
+use Rattle.std.proofs.Common.{◌≡◌, ◌⊎◌, inl, inr, ℕ, zero, suc, ◌+◌, ◌-◌, ◌<◌, ◌≤◌, List, [], ◌∷◌, ◌++◌, length, map, take, drop, sym, ap, ap₂, ◌∙◌, refl, subst, arith, append_assoc, eq-eqb}
 use Rattle.std.proofs.lemmas.Bool.{cases_lt}
 use Rattle.std.proofs.lemmas.List.{length-append, length-drop, length-take-le, take_all, append-nil}
 use Rattle.alg_core.specs.Fields.{FieldOn, Scalar, scalars, is_field}
 use Rattle.alg_core.specs.Keys.{Key}
-use Rattle.alg_core.specs.KeyLists.{keys_of_degree, InSpace}
+use Rattle.alg_core.specs.KeyLists.{keys_of_degree}
 use Rattle.alg_core.specs.KeyOrders.{OrderOn}
-use Rattle.alg_core.specs.Lists.{In, in_left, in_right}
+use Rattle.alg_core.specs.Lists.{In, in_right}
 use Rattle.alg_core.specs.ModuleLaws as modules
-use Rattle.alg_core.specs.Monomials.{Mon, monomials}
+use Rattle.alg_core.specs.Monomials.{Mon}
 use Rattle.alg_core.specs.SpaceGrading.{AllPositive, weight, height, degree}
-use Rattle.alg_core.specs.SpaceOrder.{key_order}
 use Rattle.alg_core.specs.Vectors.{Vect, vectors, plus, zero_vector}
 use Rattle.alg_core.proofs.KeyLists.{keys_of_degree_exact}
 use Rattle.alg_core.proofs.Members.{from_map}
@@ -26,13 +23,13 @@ use Rattle.poly_module.specs.Parts.{supp_single}
 use Rattle.poly_module.specs.Polynomials.{product, vector_ring, single_vector}
 use Rattle.poly_module.specs.Products.{one_product, ring_one}
 use Rattle.poly_module.specs.Signs.{minus}
-use Rattle.poly_module.specs.Substitutions.{monomial_value, monomial_value_one, substitute, substitute_single}
+use Rattle.poly_module.specs.Substitutions.{monomial_value, monomial_value_one, substitute_single}
 use Rattle.poly_module.specs.Walks.{Keeps}
 use Rattle.poly_module.proofs.CombinationLaws.{over_zero, over_plus, over_act, over_product, over_member}
 use Rattle.poly_module.proofs.OverSpans.{over_span}
 use Rattle.poly_module.proofs.SpaceVectorLaws.{minus_unique}
 use Rattle.secondary_gens.specs.PrintedCombinations.{combination_space}
-use Rattle.secondary_gens.specs.Secondaries.{IsIrredundant, IsRedundant}
+use Rattle.secondary_gens.specs.Secondaries.{IsIrredundant}
 use Rattle.secondary_gens.proofs.Lists.{listed_front, listed_in, over_more, over_in, forms_length, forms_at, weight_zero_is_one}
 use Rattle.secondary_gens.proofs.ColumnSteps.{split_append}
 

@@ -1,18 +1,15 @@
 -- Lists of vectors and of degrees with members at their end; combinations over longer lists.
-use Rattle.std.proofs.Common.{◌≡◌, ◌⊎◌, inl, inr, ℕ, zero, suc, ◌+◌, ◌*◌, ◌<◌, ◌≤◌, List, [], ◌∷◌, ◌++◌, length, map, sym, ap, ap₂, ◌∙◌, refl, subst, arith}
+use Rattle.std.proofs.Common.{◌≡◌, inl, inr, ℕ, zero, suc, ◌+◌, ◌*◌, ◌<◌, List, [], ◌∷◌, ◌++◌, length, sym, ap, ◌∙◌, refl, subst, arith}
 use Rattle.std.proofs.lemmas.List.{length-append}
-use native.Mathlib.Decide.{dec_le}
 use Rattle.alg_core.specs.Fields.{FieldOn}
-use Rattle.alg_core.specs.Keys.{Key}
 use Rattle.alg_core.specs.Lists.{In}
 use Rattle.alg_core.specs.Monomials.{Mon, monomials, mono, Divides, mon_ext, exponent, exponent_one, exponent_mul, exponent_mono}
 use Rattle.alg_core.specs.SpaceGrading.{AllPositive, weight, height}
 use Rattle.alg_core.specs.Vectors.{Vect}
-use Rattle.poly_module.specs.Combinations.{Over, term_value}
+use Rattle.poly_module.specs.Combinations.{Over}
 use Rattle.poly_module.specs.MonomialVariables.{variable, after_zeros}
 use Rattle.poly_module.specs.Forms.{IsForm, AreForms}
 use Rattle.poly_module.specs.Modules.{listed}
-use Rattle.poly_module.specs.Polynomials.{product}
 use Rattle.poly_module.proofs.CombinationLaws.{over_member, over_within}
 
 module _ {E : Type 0} (k : FieldOn E) where

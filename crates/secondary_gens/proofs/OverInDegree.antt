@@ -1,19 +1,18 @@
 -- What the elimination of one degree tells: whether a form of that degree is a combination.
-use Rattle.std.proofs.Common.{◌≡◌, ◌⊎◌, inl, inr, ℕ, zero, suc, ◌+◌, ◌<◌, ◌≤◌, List, [], ◌∷◌, ◌++◌, length, map, sym, ap, ap₂, ◌∙◌, refl, subst, arith}
+use Rattle.std.proofs.Common.{◌≡◌, ◌⊎◌, inl, inr, ℕ, ◌+◌, ◌<◌, ◌≤◌, List, [], ◌∷◌, ◌++◌, length, map, sym, ap, ap₂, ◌∙◌, refl, subst, arith}
 use Rattle.std.proofs.lemmas.List.{length-append}
 use Rattle.std.proofs.lemmas.Bool.{cases_lt}
-use Rattle.alg_core.specs.Fields.{FieldOn, Scalar, scalars}
+use Rattle.alg_core.specs.Fields.{FieldOn, Scalar}
 use Rattle.alg_core.specs.Keys.{Key}
 use Rattle.alg_core.specs.KeyOrders.{OrderOn}
 use Rattle.alg_core.specs.Lists.{In, in_left, in_right}
 use Rattle.alg_core.specs.Monomials.{Mon, monomials}
 use Rattle.alg_core.specs.SpaceGrading.{AllPositive, weight, height}
-use Rattle.alg_core.specs.Vectors.{Vect, vectors, coef_at, zero_vector}
+use Rattle.alg_core.specs.Vectors.{Vect, zero_vector}
 use Rattle.alg_core.proofs.Members.{in_cases}
 use Rattle.poly_module.specs.Combinations.{Over, term_value, combination_degree}
 use Rattle.poly_module.specs.Echelons.{Spans}
 use Rattle.poly_module.specs.Forms.{IsForm, AreForms}
-use Rattle.poly_module.specs.Modules.{listed}
 use Rattle.poly_module.specs.Polynomials.{product, vector_ring}
 use Rattle.poly_module.specs.Products.{one_product, ring_one}
 use Rattle.poly_module.specs.Substitutions.{monomial_value_one}

@@ -1,11 +1,11 @@
 -- Whether a form is a combination, and lists of polynomials without one member.
-use Rattle.std.proofs.Common.{◌≡◌, ◌⊎◌, inl, inr, ℕ, zero, suc, ◌+◌, ◌<◌, ◌≤◌, List, [], ◌∷◌, ◌++◌, length, map, get_or, take, drop, sym, ap, ap₂, ◌∙◌, refl, subst, arith, append_assoc}
+use Rattle.std.proofs.Common.{◌≡◌, ◌⊎◌, inl, inr, ℕ, suc, ◌+◌, ◌<◌, ◌≤◌, List, [], ◌∷◌, ◌++◌, length, map, get_or, take, drop, sym, ap, ap₂, ◌∙◌, refl, subst, arith, append_assoc}
 use Rattle.std.specs.Prelude.{All, remove, Bool, false, ◌==◌, ◌↔◌, IsTrue}
 use Rattle.std.proofs.lemmas.Bool.Decides.{nat_tests}
 use Rattle.std.proofs.lemmas.Bool.{cases_lt}
-use Rattle.std.proofs.lemmas.List.{take-map, drop-map, map-append, append-nil, take_more, take_all}
+use Rattle.std.proofs.lemmas.List.{take-map, drop-map, map-append, take_more}
 use Rattle.std.proofs.lemmas.List.Elements.{All-nil, All-cons, All-head, All-tail, All-append, All-take, All-drop}
-use Rattle.alg_core.specs.Fields.{FieldOn, Scalar}
+use Rattle.alg_core.specs.Fields.{Scalar}
 use Rattle.alg_core.specs.SpaceOrder.{key_order}
 use Rattle.alg_core.specs.Spaces.{SpaceOver, Fits, entries}
 use Rattle.alg_core.specs.Vectors.{Vect, vec, zero_vector, Entry}

@@ -1,9 +1,9 @@
 -- Products of primary invariants, level by level.
-use Rattle.std.proofs.Common.{◌≡◌, ℕ, zero, suc, ◌+◌, ◌*◌, ◌<◌, ◌≤◌, ◌⊎◌, inl, inr, List, [], ◌∷◌, ◌++◌, length, map, get_or, take, drop, replicate, refl, sym, ap, ap₂, subst, ◌∙◌, arith}
-use Rattle.std.specs.Prelude.{All, slice_set}
+use Rattle.std.proofs.Common.{◌≡◌, ℕ, zero, suc, ◌+◌, ◌<◌, ◌≤◌, ◌⊎◌, inl, inr, List, [], ◌∷◌, ◌++◌, length, map, get_or, take, drop, replicate, refl, sym, ap, ap₂, subst, ◌∙◌, arith}
+use Rattle.std.specs.Prelude.{All}
 use Rattle.std.specs.List.{insert}
 use Rattle.std.proofs.lemmas.Bool.{cases_lt}
-use Rattle.std.proofs.lemmas.List.{take_more, take_all, map-append, take-map, drop-map, get_or-map, length-map, length-append, get_or_append_left, get_or_push}
+use Rattle.std.proofs.lemmas.List.{take_more, take_all, map-append, take-map, drop-map, length-map, length-append, get_or_append_left, get_or_push}
 use Rattle.std.proofs.lemmas.List.Elements.{All-append, All-take, All-drop, All-cons, All-nil}
 use Rattle.alg_core.specs.ExponentLists.{product as list_product, Within}
 use Rattle.alg_core.specs.KeyLists.{Falls, inserted}
@@ -11,11 +11,11 @@ use Rattle.std.specs.declared.cmp.Ordering.{Ordering}
 use Rattle.alg_core.specs.DpOrder.{dp_order}
 use Rattle.alg_core.specs.SpaceOrder.{key_compare_places}
 use Rattle.alg_core.specs.Keys.{TermPlace, Key, key, keys, times_key, times_key_product}
-use Rattle.alg_core.specs.Lists.{In, in_left, in_right, map_in}
-use Rattle.alg_core.specs.Monomials.{Mon, monomials, mono, Divides, exponent, exponent_mono, exponent_mul, mon_ext}
+use Rattle.alg_core.specs.Lists.{In}
+use Rattle.alg_core.specs.Monomials.{Mon, monomials, mono, Divides, exponent, exponent_mono, exponent_mul}
 use Rattle.alg_core.specs.SpaceGrading.{AllPositive, weight, weight_ext, weight_mul}
 use Rattle.alg_core.specs.Spaces.{SpaceOver, entries, place}
-use Rattle.alg_core.specs.Vectors.{Vect, vec}
+use Rattle.alg_core.specs.Vectors.{Vect}
 use Rattle.alg_core.specs.declared.term.Term.{Term}
 use Rattle.alg_core.proofs.Members.{in_cases}
 use Rattle.poly_module.specs.Variables.{exponent_past, length_mon}
@@ -26,7 +26,7 @@ use Rattle.poly_module.specs.MonomialVariables.{variable}
 use Rattle.poly_module.specs.Modules.{listed}
 use Rattle.poly_module.specs.Polynomials.{product, vector_ring, one_vector}
 use Rattle.poly_module.specs.Products.{ring_product, ring_one}
-use Rattle.poly_module.specs.SpaceVectors.{vector_of, vectors_of, IsVectorOf, IsPolyOf}
+use Rattle.poly_module.specs.SpaceVectors.{vector_of, IsVectorOf, IsPolyOf}
 use Rattle.poly_module.specs.Substitutions.{image, monomial_value, monomial_value_mul, monomial_value_mono, monomial_value_one, monomial_value_variable}
 use Rattle.poly_module.proofs.ConstantSteps.{mono_set, mono_zeros, length_zeros}
 use Rattle.invariant_space.specs.Columns.{IsImage}

@@ -1,21 +1,21 @@
 -- The rows of the elimination, step by step.
-use Rattle.std.proofs.Common.{◌≡◌, ℕ, ◌+◌, ◌<◌, ◌≤◌, List, [], ◌∷◌, ◌++◌, length, map, get_or, take, drop, sym, ap, ap₂, ◌∙◌, refl, subst, arith}
+use Rattle.std.proofs.Common.{◌≡◌, ℕ, ◌+◌, ◌<◌, ◌≤◌, List, [], ◌∷◌, ◌++◌, length, map, get_or, take, drop, sym, ap, ap₂, ◌∙◌, subst, arith}
 use Rattle.std.specs.Prelude.{All}
 use Rattle.std.proofs.lemmas.List.{take_more, map-append, take-append-drop, drop_more, take_all}
 use Rattle.std.proofs.lemmas.List.Elements.{All-push}
-use Rattle.alg_core.specs.Fields.{FieldOn, Has, Scalar, scalar, scalars, scalar_mul, scalar_one}
-use Rattle.alg_core.specs.Keys.{Key, key}
+use Rattle.alg_core.specs.Fields.{Has, scalar, scalars, scalar_mul, scalar_one}
+use Rattle.alg_core.specs.Keys.{Key}
 use Rattle.alg_core.specs.Spaces.{SpaceOver, Fits, IsPlace, IsTerm, place, entry, entries}
-use Rattle.alg_core.specs.Vectors.{Vect, vec, vectors, coef_at, plus, scale, zero_vector}
+use Rattle.alg_core.specs.Vectors.{Vect, vec, vectors, coef_at, scale, zero_vector}
 use Rattle.alg_core.specs.declared.term.Term.{Term}
 use Rattle.alg_core.proofs.VectorLaws.{coef_at_scale}
 use Rattle.poly_module.specs.Echelons.{Spans}
-use Rattle.poly_module.specs.Parts.{IsPolynomial, supp_scale, supp_zero}
+use Rattle.poly_module.specs.Parts.{supp_scale}
 use Rattle.poly_module.specs.Signs.{minus}
-use Rattle.poly_module.specs.SpaceVectors.{vector_of, IsVector, IsVectorOf, IsPoly, IsPolyOf}
+use Rattle.poly_module.specs.SpaceVectors.{vector_of, IsVectorOf, IsPoly}
 use Rattle.poly_module.proofs.SpaceVectorLaws.{is_polynomial, poly_given, poly_of, supp_minus}
 use Rattle.secondary_gens.specs.declared.elimination.Row.{Row}
-use Rattle.secondary_gens.specs.Eliminations.{Line, IsTriangular, IsReducedBy, IsEchelonOf, line_of, lines_of, IsRowOver}
+use Rattle.secondary_gens.specs.Eliminations.{IsTriangular, IsReducedBy, IsEchelonOf, line_of, lines_of, IsRowOver}
 use Rattle.secondary_gens.proofs.Triangular.{reduced_none, reduced_more, echelon_same, echelon_more, fresh, spanned}
 
 module _ {E : Type 0} (S : SpaceOver E) where

@@ -1,13 +1,12 @@
 -- Insertion into a list that falls.
-use Rattle.std.proofs.Common.{◌≡◌, ℕ, suc, ◌+◌, ◌<◌, ◌≤◌, ◌⊎◌, inl, inr, List, [], ◌∷◌, ◌++◌, length, map, get_or, take, drop, refl, sym, ap, ap₂, subst, ◌∙◌, arith, drop-cons, append_assoc, take-append-drop}
+use Rattle.std.proofs.Common.{◌≡◌, ℕ, suc, ◌+◌, ◌<◌, ◌≤◌, ◌⊎◌, inl, List, [], ◌∷◌, ◌++◌, length, get_or, take, drop, refl, sym, ap, ap₂, subst, ◌∙◌, arith, drop-cons, append_assoc, take-append-drop}
 use Rattle.std.specs.List.{insert}
-use Rattle.std.specs.declared.cmp.Ordering.{Ordering}
 use Rattle.std.specs.declared.cmp.Ordering.TheVariants.{Less, Equal, Greater}
 use Rattle.std.proofs.lemmas.List.{take_more, take_all, drop_all}
 use Rattle.alg_core.specs.KeyLists.{Falls, inserted_by, inserted, sorted}
 use Rattle.alg_core.specs.KeyOrders.{OrderOn, less_greater}
 use Rattle.alg_core.specs.Lists.{In}
-use Rattle.alg_core.proofs.KeyLists.{in_sorted, from_sorted, falls_sorted}
+use Rattle.alg_core.proofs.KeyLists.{in_sorted, falls_sorted}
 
 module _ {T : Type 0} (o : OrderOn T) where
   at_place : (l : List T) (j : ℕ) (x : T) → j < length l → x ≡ get_or l j x → drop j l ≡ x ∷ drop (suc j) l

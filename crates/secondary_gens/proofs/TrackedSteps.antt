@@ -1,29 +1,26 @@
 -- Elimination that keeps the combinations of its rows, and the combination that is printed.
 use Rattle.std.proofs.Common.{◌≡◌, ℕ, zero, suc, ◌+◌, ◌<◌, ◌≤◌, ◌⊎◌, inl, inr, List, [], ◌∷◌, ◌++◌, length, map, get_or, take, drop, refl, sym, ap, ap₂, subst, ◌∙◌, arith}
 use Rattle.std.specs.Prelude.{All}
-use Rattle.std.proofs.lemmas.List.{take_more, take_all, map-append, take-append-drop, drop_more, take-map, length-append, length-map}
+use Rattle.std.proofs.lemmas.List.{take_more, take_all, map-append, take-append-drop, drop_more, take-map, length-append}
 use Rattle.std.proofs.lemmas.List.Elements.{All-nil, All-push}
 use Rattle.alg_core.specs.Fields.{FieldOn, Scalar, scalar, scalars}
-use Rattle.alg_core.specs.Keys.{Key, key}
-use Rattle.alg_core.specs.KeyOrders.{OrderOn}
+use Rattle.alg_core.specs.Keys.{Key}
 use Rattle.alg_core.specs.Lists.{In, in_right, map_in}
 use Rattle.alg_core.specs.ModuleLaws as modules
-use Rattle.alg_core.specs.Rings.{Linear}
 use Rattle.alg_core.specs.Spans.{combine}
 use Rattle.alg_core.specs.SpaceOrder.{key_order}
-use Rattle.alg_core.specs.Spaces.{SpaceOver, entries, place}
-use Rattle.alg_core.specs.Vectors.{Vect, vec, vectors, coef_at, plus, zero_vector}
+use Rattle.alg_core.specs.Spaces.{SpaceOver}
+use Rattle.alg_core.specs.Vectors.{Vect, vectors, coef_at, plus, zero_vector}
 use Rattle.alg_core.specs.declared.term.Term.{Term}
 use Rattle.alg_core.proofs.Members.{in_cases, from_map}
 use Rattle.alg_core.proofs.SpanLaws.{span_member, span_within}
-use Rattle.poly_module.specs.Choices.{IsFirstChoice, IsSpannedBefore}
-use Rattle.poly_module.specs.Combinations.{Over, IsCombination, term_value, combination_value, combination_degree}
+use Rattle.poly_module.specs.Choices.{IsSpannedBefore}
+use Rattle.poly_module.specs.Combinations.{term_value, combination_value}
 use Rattle.poly_module.specs.Echelons.{Spans}
-use Rattle.poly_module.specs.Forms.{IsForm, AreForms}
 use Rattle.poly_module.specs.Parts.{Supp, supp_single, supp_act, supp_weaken, supp_zero, supp_plus}
 use Rattle.poly_module.specs.Polynomials.{single_vector}
 use Rattle.poly_module.specs.Signs.{minus}
-use Rattle.poly_module.specs.SpaceVectors.{vector_of, vectors_of, IsPoly}
+use Rattle.poly_module.specs.SpaceVectors.{vector_of}
 use Rattle.poly_module.proofs.CombinationLaws.{combination_value_linear, combination_value_single}
 use Rattle.poly_module.proofs.SpaceVectorLaws.{minus_unique, supp_minus}
 use Rattle.secondary_gens.specs.Columns.{key_of, keys_of, IsColumns}
@@ -31,7 +28,6 @@ use Rattle.secondary_gens.specs.declared.columns.Column.{Column}
 use Rattle.secondary_gens.specs.declared.elimination.Row.{Row}
 use Rattle.secondary_gens.specs.Eliminations.{Line, vectors_in, IsReducedBy, IsEchelonOf, IsFirstIn, IsTracked, IsRowOver, line_of, lines_of}
 use Rattle.secondary_gens.specs.PrintedCombinations.{IsTermBefore, IsPrintedCombination}
-use Rattle.secondary_gens.proofs.Lists.{forms_length}
 use Rattle.secondary_gens.proofs.OverInDegree.{InDegree}
 use Rattle.secondary_gens.proofs.Triangular.{fresh, echelon_same, echelon_more}
 

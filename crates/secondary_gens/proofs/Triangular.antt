@@ -1,15 +1,15 @@
 -- Elimination by rows, each with a key of its own.
-use Rattle.std.proofs.Common.{◌≡◌, inl, inr, ℕ, suc, ◌+◌, List, [], ◌∷◌, ◌++◌, length, map, ◌⊎◌, sym, ap, ap₂, ◌∙◌, refl, subst, arith}
+use Rattle.std.proofs.Common.{◌≡◌, inl, inr, suc, List, [], ◌∷◌, ◌++◌, length, ◌⊎◌, sym, ap, ap₂, ◌∙◌, refl, subst, arith}
 use Rattle.std.proofs.lemmas.List.{length-append}
 use Rattle.alg_core.specs.Fields.{FieldOn, Scalar, scalars, is_field}
 use Rattle.alg_core.specs.Keys.{Key}
-use Rattle.alg_core.specs.Lists.{In, in_left, in_right, map_in}
+use Rattle.alg_core.specs.Lists.{In, in_left, in_right}
 use Rattle.alg_core.specs.ModuleLaws as modules
 use Rattle.alg_core.specs.RingLaws as rings
 use Rattle.alg_core.specs.Spans.{combine}
 use Rattle.alg_core.specs.Vectors.{Vect, vectors, coef_at, plus, zero_vector}
 use Rattle.alg_core.proofs.Members.{in_cases, from_map}
-use Rattle.alg_core.proofs.SpanLaws.{span_add, span_act, span_minus, span_member, span_within, span_zero}
+use Rattle.alg_core.proofs.SpanLaws.{span_add, span_act, span_minus, span_member, span_within}
 use Rattle.alg_core.proofs.VectorLaws.{coef_at_plus, coef_at_zero}
 use Rattle.poly_module.specs.Echelons.{Spans}
 use Rattle.poly_module.specs.Signs.{minus}

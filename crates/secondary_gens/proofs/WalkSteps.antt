@@ -1,14 +1,10 @@
 -- The walk along the echelon bases, degree by degree.
-use Rattle.std.proofs.Common.{◌≡◌, ◌⊎◌, inl, inr, ℕ, zero, suc, ◌+◌, ◌<◌, ◌≤◌, List, [], ◌∷◌, ◌++◌, length, map, append_assoc, sym, ap, ap₂, ◌∙◌, refl, subst, arith}
-use Rattle.std.specs.Prelude.{replicate}
+use Rattle.std.proofs.Common.{◌≡◌, ◌⊎◌, inl, inr, ℕ, suc, ◌<◌, ◌≤◌, List, [], ◌∷◌, ◌++◌, length, sym, ap, refl, subst, arith}
 use Rattle.std.proofs.lemmas.Bool.{cases_lt}
-use Rattle.alg_core.specs.Fields.{FieldOn, Scalar, scalars}
-use Rattle.alg_core.specs.Keys.{Key}
-use Rattle.alg_core.specs.Lists.{In, in_left, in_right}
+use Rattle.alg_core.specs.Fields.{FieldOn}
+use Rattle.alg_core.specs.Lists.{In, in_right}
 use Rattle.alg_core.specs.Spaces.{SpaceOver}
-use Rattle.alg_core.specs.SpaceOrder.{key_order}
 use Rattle.alg_core.specs.Vectors.{Vect, vectors, plus, zero_vector}
-use Rattle.alg_core.proofs.Members.{in_cases}
 use Rattle.alg_core.proofs.SpanLaws.{span_ind}
 use Rattle.poly_module.specs.Combinations.{Over}
 use Rattle.poly_module.specs.Walks.{Keeps}

@@ -9,7 +9,7 @@
 --   IsTracked k value L of ls cs   the vectors of the lines are the values `of` the vectors cs, whose keys are all such keys of L
 --   line_of S r, lines_of S rs   the line that a row stands for
 --   IsRowOver S r            its key is a place of the space S, and its vector a polynomial over S
-use Rattle.std.specs.Prelude.{◌≡◌, ℕ, List, [], ◌∷◌, ◌++◌, All, length, map}
+use Rattle.std.specs.Prelude.{◌≡◌, List, [], ◌∷◌, ◌++◌, length, map}
 use Rattle.alg_core.specs.Fields.{FieldOn, Scalar, scalars}
 use Rattle.alg_core.specs.Keys.{Key, key}
 use Rattle.alg_core.specs.Lists.{In}

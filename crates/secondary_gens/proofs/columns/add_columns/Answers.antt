@@ -1,4 +1,4 @@
-use Rattle.std.proofs.Common.{◌≡◌, refl, sym, subst, ap, arith, ◌∙◌, map, take, ◌++◌}
+use Rattle.std.proofs.Common.{refl, sym, subst, ap, arith, ◌∙◌, map, ◌++◌}
 use Rattle.alg_core.specs.Spaces.{over}
 use Rattle.std.proofs.lemmas.List.{take_all}
 use Rattle.poly_module.specs.Polynomials.{product}

@@ -1,9 +1,9 @@
-use Rattle.std.proofs.Common.{◌≡◌, ◌<◌, ◌-◌, ◌+◌, [], get_or, length, map, refl, sym, ap, subst, ◌∙◌, arith}
+use Rattle.std.proofs.Common.{◌≡◌, ◌<◌, ◌-◌, ◌+◌, [], get_or, length, map, sym, ap, subst, ◌∙◌, arith}
 use Rattle.std.proofs.lemmas.List.{length-map}
 use Rattle.alg_core.specs.Spaces.{over}
 use Rattle.poly_module.specs.SpaceVectors.{vectors_of}
 use Rattle.secondary_gens.specs.Columns.{IsColumnPart}
-use Rattle.secondary_gens.specs.Forms.{degree_of, degrees_of}
+use Rattle.secondary_gens.specs.Forms.{degrees_of}
 use Rattle.secondary_gens.proofs.ColumnCalls.{column_polynomials, column_room, column_more, column_skip}
 use Rattle.secondary_gens.proofs.ColumnSteps.{part_none, part_end}
 use Rattle.secondary_gens.proofs.ProductSteps.{read_map}

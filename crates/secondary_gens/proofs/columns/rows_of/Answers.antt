@@ -1,4 +1,4 @@
-use Rattle.std.proofs.Common.{refl, arith}
+use Rattle.std.proofs.Common.{arith}
 use Rattle.alg_core.specs.Spaces.{over}
 use Rattle.secondary_gens.proofs.ColumnSteps.{rowed_none, rowed_more, rowed_all}
 use Rattle.secondary_gens.proofs.columns.rows_of.Goals as goal

@@ -1,8 +1,7 @@
-use Rattle.std.proofs.Common.{◌≡◌, ◌<◌, ◌+◌, length, rules, sym, ap, ◌∙◌, arith, take}
+use Rattle.std.proofs.Common.{◌<◌, ◌+◌, length, rules, ap, ◌∙◌, arith}
 use Rattle.alg_core.specs.Spaces.{over}
 use Rattle.poly_module.specs.GreatestExponents.{total}
 use Rattle.std.proofs.lemmas.List.{take_all}
-use Rattle.secondary_gens.specs.Forms.{degree_of}
 use Rattle.secondary_gens.proofs.FormDegrees.{total_more, total_front, first_degree_seen}
 use Rattle.secondary_gens.proofs.degrees.degree.Goals as goal
 

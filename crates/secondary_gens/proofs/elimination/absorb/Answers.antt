@@ -5,7 +5,7 @@ use Rattle.alg_core.specs.Fields.{scalar, scalars}
 use Rattle.alg_core.specs.Spaces.{over}
 use Rattle.alg_core.specs.Vectors.{vectors, coef_at, zero_vector}
 use Rattle.poly_module.specs.SpaceVectors.{vector_of}
-use Rattle.secondary_gens.specs.Eliminations.{IsRowOver, IsReducedBy, line_of, lines_of}
+use Rattle.secondary_gens.specs.Eliminations.{IsRowOver, line_of}
 use Rattle.secondary_gens.proofs.RowSteps.{absorbed, unchanged, reduced_at, row_fresh, row_spanned}
 use Rattle.secondary_gens.proofs.elimination.absorb.Goals as goal
 

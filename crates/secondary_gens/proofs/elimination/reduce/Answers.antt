@@ -1,7 +1,7 @@
-use Rattle.std.proofs.Common.{refl, sym, subst}
+use Rattle.std.proofs.Common.{sym, subst}
 use Rattle.alg_core.specs.Spaces.{over}
 use Rattle.secondary_gens.specs.Eliminations.{IsRowOver}
-use Rattle.secondary_gens.proofs.RowSteps.{taken_none, taken_more, taken_all}
+use Rattle.secondary_gens.proofs.RowSteps.{taken_none, taken_more}
 use Rattle.secondary_gens.proofs.elimination.reduce.Goals as goal
 
 pub loop-i-init : goal.loop-i-init

@@ -1,4 +1,4 @@
-use Rattle.std.proofs.Common.{ap, sym, ◌∙◌, refl}
+use Rattle.std.proofs.Common.{ap, refl}
 use Rattle.alg_core.specs.Spaces.{over}
 use Rattle.alg_core.specs.Keys.{key}
 use Rattle.secondary_gens.proofs.RowSteps.{row_made, row_multiple, row_one}

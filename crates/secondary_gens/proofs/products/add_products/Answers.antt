@@ -1,5 +1,4 @@
 use Rattle.std.proofs.Common.{◌≡◌, ◌<◌, ◌≤◌, ◌-◌, ◌+◌, [], get_or, length, map, refl, sym, ap, subst, ◌∙◌, arith}
-use Rattle.std.specs.Prelude.{IfSome, IfNone}
 use Rattle.std.proofs.lemmas.List.{length-map}
 use Rattle.std.specs.List.{insert}
 use Rattle.alg_core.specs.KeyLists.{inserted}
@@ -7,15 +6,14 @@ use Rattle.poly_module.specs.Modules.{listed}
 use Rattle.invariant_space.specs.Columns.{IsImage}
 use Rattle.alg_core.specs.Spaces.{over}
 use Rattle.alg_core.specs.ExponentLists.{product as list_product, Within}
-use Rattle.poly_module.specs.SpaceVectors.{vectors_of, IsPoly}
+use Rattle.poly_module.specs.SpaceVectors.{vectors_of}
 use Rattle.poly_module.proofs.SpaceVectorLaws.{poly_of}
 use Rattle.invariant_space.specs.Levels.{unit_exponents}
 use Rattle.invariant_space.proofs.MonomialDegrees.{length_unit}
-use Rattle.secondary_gens.specs.Columns.{turned, mark_order, key_of, keys_of, IsPart}
-use Rattle.secondary_gens.specs.Forms.{degree_of, degrees_of, IsPositiveForm}
-use Rattle.alg_core.specs.Keys.{key}
+use Rattle.secondary_gens.specs.Columns.{turned, mark_order, key_of, keys_of}
+use Rattle.secondary_gens.specs.Forms.{degree_of, degrees_of}
 use Rattle.secondary_gens.specs.declared.columns.Column.{Column}
-use Rattle.secondary_gens.proofs.FormDegrees.{weight_read, primary_image, positive_small}
+use Rattle.secondary_gens.proofs.FormDegrees.{weight_read, primary_image}
 use Rattle.secondary_gens.proofs.LowerLevels.{weight_positive, lower_of}
 use Rattle.secondary_gens.proofs.ProductSteps.{read_map, part_skip, adding_none, adding_end, lower_product, lower_within, lower_wide, lower_room, add_same, add_more, Adding}
 use Rattle.secondary_gens.proofs.products.add_products.Goals as goal

@@ -1,8 +1,5 @@
-use Rattle.std.proofs.Common.{◌≡◌, ◌+◌, length, map, refl, sym, ap, subst, ◌∙◌, arith}
-use Rattle.std.proofs.lemmas.List.{length-map, map-append, length-append}
 use Rattle.alg_core.specs.Spaces.{over}
 use Rattle.poly_module.specs.SpaceVectors.{vectors_of}
-use Rattle.secondary_gens.specs.Columns.{AreLevels, IsLevel}
 use Rattle.secondary_gens.specs.Forms.{degrees_of}
 use Rattle.secondary_gens.proofs.ProductSteps.{levels_pushed}
 use Rattle.secondary_gens.proofs.products.extend.Goals as goal

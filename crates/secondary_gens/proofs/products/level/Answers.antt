@@ -1,4 +1,4 @@
-use Rattle.std.proofs.Common.{◌≡◌, ◌<◌, rules, length, refl, sym, subst, arith}
+use Rattle.std.proofs.Common.{◌≡◌, rules, subst, arith}
 use Rattle.std.proofs.lemmas.List.{length-map}
 use Rattle.alg_core.specs.Spaces.{over}
 use Rattle.poly_module.specs.SpaceVectors.{vectors_of}

@@ -1,8 +1,7 @@
-use Rattle.std.proofs.Common.{◌≡◌, map, refl, sym, subst, ap, ◌∙◌, arith}
+use Rattle.std.proofs.Common.{◌≡◌, refl, sym, subst, arith}
 use Rattle.std.specs.Prelude.{remove}
-use Rattle.alg_core.specs.Spaces.{over, entries}
-use Rattle.poly_module.specs.SpaceVectors.{vectors_of}
-use Rattle.secondary_gens.proofs.OverSteps.{all_entries, others_forms, over_redundant, redundant_over, none_first, none_more, none_all, first_found, not_true}
+use Rattle.alg_core.specs.Spaces.{over}
+use Rattle.secondary_gens.proofs.OverSteps.{all_entries, others_forms, over_redundant, redundant_over, none_more, none_all, first_found, not_true}
 use Rattle.secondary_gens.proofs.redundance.first_redundant.Goals as goal
 
 pub is_over-requires-clause-polynomials : goal.is_over-requires-clause-polynomials

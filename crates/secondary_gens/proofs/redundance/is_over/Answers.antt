@@ -1,4 +1,4 @@
-use Rattle.std.proofs.Common.{◌≡◌, map, refl, sym, subst}
+use Rattle.std.proofs.Common.{map, subst}
 use Rattle.alg_core.specs.Fields.{scalar}
 use Rattle.alg_core.specs.Spaces.{over}
 use Rattle.poly_module.specs.SpaceVectors.{vector_of, vectors_of}
