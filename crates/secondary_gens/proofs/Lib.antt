@@ -1,0 +1,15 @@
+pub mod Triangular
+pub mod Lists
+pub mod OverInDegree
+pub mod RowSteps
+pub mod Sorting
+pub mod WalkSteps
+pub mod ProductSteps
+pub mod FormDegrees
+pub mod ColumnSteps
+pub mod ImageSteps
+pub mod TrackedSteps
+pub mod LowerLevels
+pub mod Irredundant
+pub mod OverSteps
+pub mod ColumnCalls

@@ -1,0 +1,5 @@
+pub mod Forms
+pub mod Secondaries
+pub mod PrintedCombinations
+pub mod Eliminations
+pub mod Columns

@@ -1,0 +1,13 @@
+//! Secondary invariants: a list over which, with primary invariants, every invariant is a combination,
+//! and none of which is superfluous; and the one combination that is printed for an invariant.
+#![tactic(auto)]
+
+mod columns;
+mod degrees;
+mod elimination;
+mod laws;
+mod products;
+mod redundance;
+
+pub use laws::kept_lists;
+pub use redundance::first_redundant;
