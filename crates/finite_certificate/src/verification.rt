@@ -96,9 +96,9 @@ fn is_power<F: Field>(
 }
 
 /// The first variable, from 1, whose power has a form with a term without a mark, or of another value
-/// than that power. None exactly where there is none: then the polynomials are a finite module over
-/// the algebra of the polynomials theta, and the powers bound its generators. The space is that of the
-/// variables and one mark for each member of theta; there is one power for each variable.
+/// than that power. None exactly where there is none: the powers are the evidence of a certificate that
+/// the polynomials are a finite module over the algebra of theta. The space is that of the variables
+/// and one mark for each member of theta, of its degree; there is one power for each variable.
 /// (Derksen and Kemper, Computational Invariant Theory, section 2.4.)
 pub fn verify<F: Field>(
     alloc: Global,
