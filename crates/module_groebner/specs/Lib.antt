@@ -1,0 +1,6 @@
+pub mod HomogeneousLists
+pub mod Remainders
+pub mod SVectors
+pub mod BasisBounds
+pub mod Progress
+pub mod Completions
