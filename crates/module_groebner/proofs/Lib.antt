@@ -1,2 +1,5 @@
 pub mod Sums
 pub mod Remainders
+pub mod SVectors
+pub mod DegreeCriterion
+pub mod PairCriterion

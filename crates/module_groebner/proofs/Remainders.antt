@@ -187,7 +187,7 @@ module _ {E : Type 0} (S : SpaceOver E) where
         go (inl z) = (zero_vector k, module_zero k g, plus_zero k r ∙ h.zero z ∙ sym z)
         go (inr l) = let w = h.sum l.0 l.1 in (w.0, sum_in_module S g (AtMost l.0) w.0 w.1, w.2)
 
-    module_difference : (u v w : Vect S.field) → plus S.field u w ≡ v → InModule S.field g v → InModule S.field g w → InModule S.field g u
+    pub module_difference : (u v w : Vect S.field) → plus S.field u w ≡ v → InModule S.field g v → InModule S.field g w → InModule S.field g u
     unfolding minus
     module_difference u v w e hv hw = subst (InModule k g) (sym (minus_unique k u v w e)) (module_plus k g v _ hv (subst (InModule k g) (sym (modules.minus_is (vectors k) w)) (module_act k g _ w hw)))
 
