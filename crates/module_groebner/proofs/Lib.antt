@@ -3,3 +3,5 @@ pub mod Remainders
 pub mod SVectors
 pub mod DegreeCriterion
 pub mod PairCriterion
+pub mod Families
+pub mod Completions
