@@ -5,3 +5,4 @@ pub mod DegreeCriterion
 pub mod PairCriterion
 pub mod Families
 pub mod Completions
+pub mod Progresses
