@@ -6,3 +6,4 @@ pub mod PairCriterion
 pub mod Families
 pub mod Completions
 pub mod Progresses
+pub mod CompletionEnds
