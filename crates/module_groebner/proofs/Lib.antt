@@ -7,3 +7,4 @@ pub mod Families
 pub mod Completions
 pub mod Progresses
 pub mod CompletionEnds
+pub mod CompletionResults
