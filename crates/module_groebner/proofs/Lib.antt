@@ -8,3 +8,4 @@ pub mod Completions
 pub mod Progresses
 pub mod CompletionEnds
 pub mod CompletionResults
+pub mod ReducedBases
