@@ -9,3 +9,7 @@ pub mod Progresses
 pub mod CompletionEnds
 pub mod CompletionResults
 pub mod ReducedBases
+pub mod MergeSteps
+pub mod ReductionSteps
+pub mod DivisionSteps
+pub mod PairSteps
