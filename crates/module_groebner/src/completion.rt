@@ -1,18 +1,24 @@
-ghost use Rattle.std.specs.Prelude.{◌≡◌, ◌⊎◌, ◌<◌, ◌≤◌, [], Ok, IfOk, IfErr, OnErr, map};
+ghost use Rattle.std.specs.Prelude.{◌≡◌, ◌↔◌, ◌⊎◌, ◌<◌, ◌≤◌, [], Ok, IsNone, IfSome, IfOk, IfErr, OnOk, OnErr, map};
 ghost use Rattle.std.specs.List.Sorted.{IsPermutation};
 ghost use Rattle.alg_core.specs.Spaces.{over, entries};
+ghost use Rattle.alg_core.specs.Vectors.{Vect};
 ghost use Rattle.poly_module.specs.Modules.{InModule, listed};
 ghost use Rattle.poly_module.specs.ReducedLists.{IsReducedBasis};
-ghost use Rattle.poly_module.specs.SpaceVectors.{IsPositive, AreVectors, vectors_of};
+ghost use Rattle.poly_module.specs.SpaceVectors.{IsPositive, IsVector, AreVectors, vector_of, vectors_of};
 ghost use Rattle.module_groebner.specs.declared.bound.BasisBound.{BasisBound};
 ghost use Rattle.module_groebner.specs.HomogeneousLists.{degree_limit, cap_limit, AreHomogeneousUpTo};
 ghost use Rattle.module_groebner.specs.BasisBounds.{NothingAbove};
+ghost use Rattle.module_groebner.specs.Remainders.{IsRemainder, KeepsDegrees};
 ghost use Rattle.module_groebner.specs.Progress.{IsDone, IsUnchanged, left};
-ghost use Rattle.module_groebner.specs.Completions.{SameModule, generated, StandsOver, TreatsGenerator, TreatsPair, Extends, IsOver};
+ghost use Rattle.module_groebner.specs.Items.{IsCurrent, IsVectorOfItem, ArePairsWith, IsAppended};
+ghost use Rattle.module_groebner.specs.Completions.{SameModule, generated, StandsOver, TreatsGenerator, TreatsPair, Extends, IsOver, members};
 
-use crate::bound::BasisBound;
+use crate::bound::{BasisBound, Which};
+use crate::degrees::{generator_degree, lead_position, pair_degree};
+use crate::division::divide;
+use crate::pair::s_vector;
 use alg_core::{Field, Memory, Mono, Space, TermOrder};
-use poly_module::Vector;
+use poly_module::{Vector, copy, degree};
 use std::alloc::Global;
 use std::marker::Model;
 
@@ -28,6 +34,13 @@ pub struct Completion<E> {
     members: Vec<Vector<E, Mono>>,
     generators: Vec<Vector<E, Mono>>,
     pairs: Vec<(u64, u64)>,
+}
+
+/// A generator or a pair of members that is still to treat, by its place from 0.
+#[derive(Clone, Copy)]
+pub(crate) enum Item {
+    Generator(usize),
+    Pair(usize),
 }
 
 /// What one step of a completion came to.
@@ -59,6 +72,99 @@ impl<E> Model for Completion<E> {
 }
 
 impl<E: Copy> Completion<E> {
+    /// An item of least degree of those that are still to treat, if there is one.
+    fn current<F: Field<Elem = E>, O: TermOrder>(
+        &self,
+        space: &Space<F, O>,
+    ) -> Result<Option<Item>, Memory>
+        requires positive { IsPositive (over F.field O.order space.now) }
+        requires stands { StandsOver (over F.field O.order space.now) self.now }
+        ensures none { IfOk result (λ o. IsNone o ↔ IsDone self.now) }
+        ensures current { IfOk result (λ o. IfSome o (IsCurrent self.now)) }
+    {
+        let mut least = None;
+        let mut low = 0;
+        'generators: for i in 0..self.generators.len() {
+            let d = generator_degree(space, &self.generators[i]);
+            if least.is_none() || d < low {
+                least = Some(Item::Generator(i));
+                low = d;
+            }
+        }
+        'pairs: for i in 0..self.pairs.len() {
+            let (a, b) = self.pairs[i];
+            let left = &self.members[a as usize];
+            let right = &self.members[b as usize];
+            let d = pair_degree(self.alloc, space, left, right)?;
+            if least.is_none() || d < low {
+                least = Some(Item::Pair(i));
+                low = d;
+            }
+        }
+        Ok(least)
+    }
+
+    /// A remainder by the members of the generator, or of the S-vector of the pair.
+    fn remainder<F: Field<Elem = E>, O: TermOrder>(
+        &self,
+        space: &Space<F, O>,
+        item: Item,
+    ) -> Result<Vector<E, Mono>, Memory>
+        requires positive { IsPositive (over F.field O.order space.now) }
+        requires stands { StandsOver (over F.field O.order space.now) self.now }
+        requires current { IsCurrent self.now item }
+        ensures fits { IfOk result (IsVector (over F.field O.order space.now) (λ m. m)) }
+        ensures remainder { let S = over F.field O.order space.now in
+            IfOk result (λ r. (v : Vect S.field) × IsVectorOfItem S self.now item v
+            × IsRemainder S (members S self.now) v (vector_of S (λ m. m) r) × KeepsDegrees S v (vector_of S (λ m. m) r)) }
+    {
+        match item {
+            Item::Generator(i) => {
+                let r = divide(self.alloc, space, &self.generators[i], &self.members)?;
+                Ok(r)
+            }
+            Item::Pair(i) => {
+                let (a, b) = self.pairs[i];
+                let left = &self.members[a as usize];
+                let right = &self.members[b as usize];
+                let v = s_vector(self.alloc, space, left, right)?;
+                let r = divide(self.alloc, space, &v, &self.members)?;
+                Ok(r)
+            }
+        }
+    }
+
+    /// The pairs still to treat, with those that the vector makes as a member after the others.
+    fn pairs_with(&self, vector: &Vector<E, Mono>) -> Result<Vec<(u64, u64)>, Memory>
+        ensures pairs { IfOk result (λ ps. ArePairsWith self.now (entries (λ m. m) vector.now) ps.items) }
+    {
+        let mut pairs = Vec::new(self.alloc);
+        pairs.extend_from_slice(&self.pairs)?;
+        let position = lead_position(vector);
+        let last = self.members.len() as u64;
+        for i in 0..self.members.len() {
+            let member = &self.members[i];
+            if lead_position(member) == position {
+                pairs.push((i as u64, last))?;
+            }
+        }
+        Ok(pairs)
+    }
+
+    /// Appends the vector to the members, unless it is 0, and the pairs that it makes.
+    fn append(&mut self, vector: Vector<E, Mono>) -> Result<(), Memory>
+        ensures appended { OnOk result (IsAppended self.old self.new (entries (λ m. m) vector)) }
+        ensures memory { OnErr result (IsUnchanged self.old self.new) }
+    {
+        if vector.terms().is_empty() {
+            return Ok(());
+        }
+        let pairs = self.pairs_with(&vector)?;
+        self.members.push(vector)?;
+        self.pairs = pairs;
+        Ok(())
+    }
+
     /// A completion of the module of the generators, which are homogeneous, up to the cap: it has no
     /// member yet, and all generators are still to treat.
     pub fn new<F: Field<Elem = E>, O: TermOrder>(
@@ -81,7 +187,24 @@ impl<E: Copy> Completion<E> {
         ensures generators { IfOk result (λ c. IsPermutation (map (entries (λ m. m)) gens.now) c.generators) }
         ensures pairs { IfOk result (λ c. c.pairs ≡ []) }
     {
-        Err(Memory)
+        let mut weights = Vec::new(alloc);
+        weights.extend_from_slice(&space.grading.weights)?;
+        let mut shifts = Vec::new(alloc);
+        shifts.extend_from_slice(&space.grading.shifts)?;
+        let mut generators = Vec::new(alloc);
+        for i in 0..gens.len() {
+            let generator = &gens[i];
+            generators.push(copy(alloc, generator)?)?;
+        }
+        Ok(Completion {
+            alloc,
+            weights,
+            shifts,
+            cap,
+            members: Vec::new(alloc),
+            generators,
+            pairs: Vec::new(alloc),
+        })
     }
 
     /// Treats the current generator or pair, which is one of least degree among those still to treat,
@@ -103,7 +226,29 @@ impl<E: Copy> Completion<E> {
         ensures falls { result ≡ Ok Step.More → left self.new < left self.old }
         ensures memory { OnErr result (IsUnchanged self.old self.new) }
     {
-        Err(Memory)
+        let Some(item) = self.current(space)? else {
+            return Ok(Step::Finished);
+        };
+        let remainder = self.remainder(space, item)?;
+        if let Some(d) = degree(space, &remainder)
+            && d > u64::from(self.cap)
+        {
+            return Ok(Step::Above(BasisBound {
+                vector: remainder,
+                degree: d,
+                which: Which::Ideal,
+            }));
+        }
+        self.append(remainder)?;
+        match item {
+            Item::Generator(i) => {
+                let _ = self.generators.swap_remove(i);
+            }
+            Item::Pair(i) => {
+                let _ = self.pairs.swap_remove(i);
+            }
+        }
+        Ok(Step::More)
     }
 
     /// The reduced basis of the module, by falling lead, where nothing is still to treat. Where memory
