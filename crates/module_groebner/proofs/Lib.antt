@@ -9,3 +9,5 @@ pub mod Progresses
 pub mod CompletionEnds
 pub mod CompletionResults
 pub mod ReducedBases
+pub mod BasisLaws
+pub mod Eliminations
