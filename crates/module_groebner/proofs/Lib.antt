@@ -11,3 +11,5 @@ pub mod CompletionResults
 pub mod ReducedBases
 pub mod BasisLaws
 pub mod Eliminations
+pub mod ReducedLists
+pub mod ReducedExistence
