@@ -13,3 +13,8 @@ pub mod MergeSteps
 pub mod ReductionSteps
 pub mod DivisionSteps
 pub mod PairSteps
+pub mod BasisLaws
+pub mod Eliminations
+pub mod ReducedLists
+pub mod ReducedExistence
+pub mod DegreeSteps

@@ -259,7 +259,7 @@ module _ {E : Type 0} (S : SpaceOver E) where
     fitted_lead c n w s m l = lead_act k o _ (mul_not_zero (scalars k) (is_field k) c _ n (inverse_not_zero _ l.there)) (shift k m w) (times_key m s) (lead_shift S m w s l)
 
     -- a single key
-    single_lead : (t : Key) → LeadBy S.field (key_order S) (single_vector S.field t) t
+    pub single_lead : (t : Key) → LeadBy S.field (key_order S) (single_vector S.field t) t
     unfolding coef_at
     single_lead t = record {
       there = λ z. (is_field k).one_not_zero (sym (indicator_yes (scalars k) (key_same t t) refl) ∙ sym (coef_at_single k t t) ∙ z);
