@@ -18,3 +18,5 @@ pub mod Eliminations
 pub mod ReducedLists
 pub mod ReducedExistence
 pub mod DegreeSteps
+pub mod CompletionSteps
+pub mod ItemSteps

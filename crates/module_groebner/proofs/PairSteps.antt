@@ -1,5 +1,6 @@
 -- The S-vector of two vectors: the size of the factors, and what the difference of the two multiples is.
 use Rattle.std.proofs.Common.{◌≡◌, ◌<◌, ◌≤◌, ◌+◌, ℕ, List, length, sym, ap, ap₂, ◌∙◌, refl, subst, arith}
+use native.Mathlib.Decide.{dec_le}
 use Rattle.alg_core.specs.Fields.{FieldOn, scalars, is_field}
 use Rattle.alg_core.specs.CommonMultiples.{common_multiple}
 use Rattle.alg_core.specs.DpOrder.{weighted_degree}
@@ -8,18 +9,19 @@ use Rattle.alg_core.specs.Keys.{TermPlace, Key, key, times_key, KeyDivides}
 use Rattle.alg_core.specs.declared.term.Term.{Term}
 use Rattle.alg_core.specs.Spaces.{SpaceOver, IsPlace}
 use Rattle.alg_core.specs.SpaceOrder.{key_order}
-use Rattle.alg_core.specs.SpaceGrading.{AllPositive, weight, weight_mul, height, degree}
-use Rattle.alg_core.specs.Vectors.{Vect, plus}
+use Rattle.alg_core.specs.SpaceGrading.{AllPositive, weight, weight_mul, height, degree, degree_times_key}
+use Rattle.alg_core.specs.Vectors.{Vect, plus, shift}
 use Rattle.alg_core.proofs.KeyMultiples.{key_lcm_least}
 use Rattle.poly_module.specs.Modules.{LeadBy}
+use Rattle.poly_module.specs.Parts.{supp_act, supp_shift}
 use Rattle.poly_module.specs.Signs.{minus}
 use Rattle.poly_module.specs.Sizes.{HasRoomAt}
 use Rattle.poly_module.specs.SpaceVectors.{vector_of, IsVector, IsUpTo}
 use Rattle.poly_module.proofs.Room.{room_at}
-use Rattle.poly_module.proofs.SpaceVectorLaws.{minus_plus}
+use Rattle.poly_module.proofs.SpaceVectorLaws.{minus_plus, minus_unique, supp_minus}
 use Rattle.module_groebner.specs.HomogeneousLists.{cap_limit, degree_limit}
 use Rattle.module_groebner.specs.SVectors.{IsMonicMultiple, IsSVector}
-use Rattle.module_groebner.proofs.ReductionSteps.{same_lead, weight_of}
+use Rattle.module_groebner.proofs.ReductionSteps.{same_lead, weight_of, bounded_lead}
 
 pub key_position : (p : TermPlace) → (key p).0 ≡ p.0
 unfolding key
@@ -84,3 +86,17 @@ module _ {E : Type 0} (S : SpaceOver E) where
       is_right = subst (λ s. IsMonicMultiple S b s (common_multiple (key p) (key q)) y) (same_lead S b hy.0 (key q) hy.1.lead lq) (subst (λ r. IsMonicMultiple S b hy.0 r y) is hy.1);
       difference = ap (λ u. plus k u y) d ∙ minus_plus k x y;
     }
+
+    -- the S-vector of two vectors within the cap
+    multiple_up_to : (u w : Vect S.field) (s l : Key) (h : IsMonicMultiple S u s l w) → weight S.weights 0 h.monomial.0 ≤ cap_limit → IsUpTo S cap_limit u → IsUpTo S degree_limit w
+    multiple_up_to u w s l h low up = subst (IsUpTo S degree_limit) (sym h.is) (supp_act k (λ t. degree S t ≤ degree_limit) h.factor (shift k h.monomial u)
+        (supp_shift k (λ t. degree S t ≤ cap_limit) (λ t. degree S t ≤ degree_limit) (λ t. dec_le (degree S t) degree_limit) h.monomial (λ t b. let e = degree_times_key S h.monomial t in omega arith) u up))
+
+    pub s_up_to : (v : Vect S.field) → IsSVector S a b v → IsUpTo S cap_limit a → IsUpTo S cap_limit b → IsUpTo S degree_limit v
+    s_up_to v h ua ub =
+        let x = left_low h.left h.right h.is_left.monomial h.position h.is_left.reaches in
+        let y = right_low h.left h.right h.is_right.monomial h.position h.is_right.reaches in
+        let s = bounded_lead S cap_limit a h.left ua h.is_left.lead in
+        let t = bounded_lead S cap_limit b h.right ub h.is_right.lead in
+        subst (IsUpTo S degree_limit) (sym (minus_unique k v h.left_multiple h.right_multiple h.difference))
+        (supp_minus k (λ r. degree S r ≤ degree_limit) h.left_multiple h.right_multiple (multiple_up_to a h.left_multiple h.left _ h.is_left (omega arith) ua) (multiple_up_to b h.right_multiple h.right _ h.is_right (omega arith) ub))

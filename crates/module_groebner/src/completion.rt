@@ -1,4 +1,4 @@
-ghost use Rattle.std.specs.Prelude.{◌≡◌, ◌↔◌, ◌⊎◌, ◌<◌, ◌≤◌, [], Ok, IsNone, IfSome, IfOk, IfErr, OnOk, OnErr, map};
+ghost use Rattle.std.specs.Prelude.{◌≡◌, ◌↔◌, ◌⊎◌, ◌<◌, ◌≤◌, [], Ok, Some, IsNone, IsSome, IfSome, IfOk, IfErr, OnOk, OnErr, map};
 ghost use Rattle.std.specs.List.Sorted.{IsPermutation};
 ghost use Rattle.alg_core.specs.Spaces.{over, entries};
 ghost use Rattle.alg_core.specs.Vectors.{Vect};
@@ -43,6 +43,26 @@ pub(crate) enum Item {
     Pair(usize),
 }
 
+/// An item with its degree.
+#[derive(Clone, Copy)]
+struct Candidate {
+    item: Item,
+    degree: u128,
+}
+
+/// The candidate, or the one so far if that has no greater degree.
+fn lesser(best: Option<Candidate>, item: Item, degree: u128) -> Option<Candidate>
+    ensures some { IsSome result }
+    ensures one { IfSome result (λ r. (best ≡ Some r) ⊎ ((r.item ≡ item) × (r.degree ≡ degree))) }
+    ensures new { IfSome result (λ r. r.degree ≤ degree) }
+    ensures old { IfSome result (λ r. IfSome best (λ o. r.degree ≤ o.degree)) }
+{
+    match best {
+        Some(old) if old.degree <= degree => Some(old),
+        _ => Some(Candidate { item, degree }),
+    }
+}
+
 /// What one step of a completion came to.
 #[derive(Drop)]
 pub enum Step<E> {
@@ -82,26 +102,23 @@ impl<E: Copy> Completion<E> {
         ensures none { IfOk result (λ o. IsNone o ↔ IsDone self.now) }
         ensures current { IfOk result (λ o. IfSome o (IsCurrent self.now)) }
     {
-        let mut least = None;
-        let mut low = 0;
+        let mut best = None;
         'generators: for i in 0..self.generators.len() {
-            let d = generator_degree(space, &self.generators[i]);
-            if least.is_none() || d < low {
-                least = Some(Item::Generator(i));
-                low = d;
-            }
+            let generator = &self.generators[i];
+            let d = generator_degree(space, generator);
+            best = lesser(best, Item::Generator(i), d);
         }
         'pairs: for i in 0..self.pairs.len() {
             let (a, b) = self.pairs[i];
             let left = &self.members[a as usize];
             let right = &self.members[b as usize];
             let d = pair_degree(self.alloc, space, left, right)?;
-            if least.is_none() || d < low {
-                least = Some(Item::Pair(i));
-                low = d;
-            }
+            best = lesser(best, Item::Pair(i), d);
         }
-        Ok(least)
+        match best {
+            Some(candidate) => Ok(Some(candidate.item)),
+            None => Ok(None),
+        }
     }
 
     /// A remainder by the members of the generator, or of the S-vector of the pair.

@@ -16,7 +16,11 @@ pub(crate) fn lead_position<E>(v: &Vector<E, Mono>) -> u64
     ensures is { result ≡ (lead_place (entries (λ m. m) v.now)).0 }
 {
     let terms = v.terms();
-    if terms.is_empty() { 0 } else { terms[0].at.pos }
+    if terms.is_empty() {
+        return 0;
+    }
+    let first = &terms[0];
+    first.at.pos
 }
 
 /// The degree of the lead, 0 for the vector 0.
@@ -32,7 +36,8 @@ pub(crate) fn generator_degree<F: Field, O: TermOrder>(
     if terms.is_empty() {
         return 0;
     }
-    term_degree(space, &terms[0].at)
+    let first = &terms[0];
+    term_degree(space, &first.at)
 }
 
 /// The degree of the least common multiple of the leads of two vectors that are not 0 and have them at
@@ -53,6 +58,8 @@ pub(crate) fn pair_degree<F: Field, O: TermOrder>(
 {
     let left = a.terms();
     let right = b.terms();
-    let l = left[0].at.lcm(alloc, &right[0].at)?;
+    let s = &left[0];
+    let t = &right[0];
+    let l = s.at.lcm(alloc, &t.at)?;
     Ok(term_degree(space, &l))
 }
