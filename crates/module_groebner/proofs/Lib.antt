@@ -13,3 +13,4 @@ pub mod BasisLaws
 pub mod Eliminations
 pub mod ReducedLists
 pub mod ReducedExistence
+pub mod Existence

@@ -1,0 +1,256 @@
+-- A module of homogeneous vectors has a reduced basis, or an element above the cap: Buchberger's algorithm degree by degree.
+use Rattle.std.proofs.Common.{◌≡◌, ◌⊎◌, inl, inr, ℕ, zero, suc, ◌+◌, ◌*◌, ◌<◌, ◌≤◌, List, [], ◌∷◌, ◌++◌, map, length, sym, ap, ap₂, ◌∙◌, refl, subst, arith, append_assoc, append-nil, length-append}
+use Rattle.std.specs.declared.cmp.Ordering.TheVariants.{Less}
+use native.Mathlib.Decide.{ℕ_discrete, dec_le}
+use Rattle.alg_core.specs.Fields.{FieldOn, scalars, is_field}
+use Rattle.alg_core.specs.Monomials.{Mon, monomials, mon_ext, exponent, exponent_one}
+use Rattle.alg_core.specs.Keys.{Key, key_same, times_key, times_key_one, KeyDivides}
+use Rattle.alg_core.specs.CommonMultiples.{common_multiple}
+use Rattle.alg_core.specs.KeyOrders.{OrderOn}
+use Rattle.alg_core.specs.Leads.{has_lead, HasLead, lead_unique}
+use Rattle.alg_core.specs.Lists.{In, in_left, in_right, map_in, pairs, in_pairs, numbers_below, in_numbers_below}
+use Rattle.alg_core.specs.Spaces.{SpaceOver}
+use Rattle.alg_core.specs.SpaceOrder.{key_order}
+use Rattle.alg_core.specs.SpaceGrading.{AllPositive, weight, degree, degree_times_key}
+use Rattle.alg_core.specs.Vectors.{Vect, vectors, coef_at, plus, zero_vector, shift}
+use Rattle.alg_core.proofs.Members.{in_cases, from_map, from_pairs}
+use Rattle.alg_core.proofs.KeyMultiples.{key_lcm_left, key_lcm_right}
+use Rattle.alg_core.proofs.VectorLaws.{zero_plus}
+use Rattle.poly_module.specs.Polynomials.{single_vector, one_vector, product}
+use Rattle.poly_module.specs.Products.{shift_product, one_product, one_vector_single}
+use Rattle.poly_module.specs.Degrees.{IsHomogeneous, part, graded_part_graded, graded_part_all, graded_part_zero}
+use Rattle.poly_module.specs.Modules.{LeadBy, InModule, IsGroebnerBasis, listed, summands}
+use Rattle.poly_module.specs.ReducedLists.{IsReducedBasisOf}
+use Rattle.poly_module.specs.SpaceVectors.{IsUpTo}
+use Rattle.poly_module.specs.Caps.{IsAboveCap}
+use Rattle.poly_module.proofs.ModuleElements.{module_zero, module_plus, module_act, module_shift, module_member, module_summands}
+use Rattle.poly_module.proofs.Reduced.{divides_trans, listed_has}
+use Rattle.module_groebner.specs.Remainders.{EachLead, IsSum, IsSumBelow, IsSumUpTo, IsRemainder, KeepsDegrees}
+use Rattle.module_groebner.specs.SVectors.{IsSVector, IsTreated}
+use Rattle.module_groebner.proofs.Sums.{Summand, Grows, sum_zero, sum_plus, sum_one, sum_of_degree, sum_grows, sum_in_module, up_to_below}
+use Rattle.module_groebner.proofs.Remainders.{AtMost, Divided, divided_dec, Irreducible, remainder_exists, remainder_difference, remainder_low, module_difference}
+use Rattle.module_groebner.proofs.SVectors.{s_exists, s_unique, s_left, s_right, s_homogeneous, s_inside, s_below, treated_grows, treated_by}
+use Rattle.module_groebner.proofs.PairCriterion.{Treats, found_in_degree}
+use Rattle.module_groebner.proofs.Families.{listed_front, listed_past, listed_at, listed_in, member_inside, inside_by_members, grows_append, homogeneous_each}
+use Rattle.module_groebner.proofs.ReducedBases.{IsGradedModule, module_graded, set_difference, generated_within}
+use Rattle.module_groebner.proofs.CompletionEnds.{part_lead, lead_there, lead_not_zero, sum_fewer}
+use Rattle.module_groebner.proofs.BasisLaws.{divisor_degree, treated_basis}
+use Rattle.module_groebner.proofs.ReducedLists.{Row}
+use Rattle.module_groebner.proofs.ReducedExistence.{IsRowOf, reduced_exists}
+
+module _ {E : Type 0} (S : SpaceOver E) (positive : AllPositive S.weights) where
+  abbrev k : FieldOn E
+  k = S.field
+
+  abbrev o : OrderOn Key
+  o = key_order S
+
+  -- the S-vector of two vectors with leads at one position, else 0
+  abbrev SDecided : Vect S.field → Vect S.field → Type 0
+  SDecided u w = (v : Vect S.field) × (IsSVector S u w v ⊎ ((v ≡ zero_vector S.field) × ((x : Vect S.field) → ¬ IsSVector S u w x)))
+
+  s_decided : (u w : Vect S.field) → SDecided u w
+  unfolding zero_vector
+  s_decided u w = go (has_lead (scalars k) (is_field k) key_same o u) (has_lead (scalars k) (is_field k) key_same o w)
+    where
+      at : (s t : Key) → LeadBy k o u s → LeadBy k o w t → Dec (s.0 ≡ t.0) → SDecided u w
+      at s t ls lt (yes p) = let v = s_exists S u w s t ls lt p in (v.0, inl v.1)
+      at s t ls lt (no n) = (zero_vector k, inr (refl, λ x q. n (ap (λ r. r.0) (sym (s_left S u w x q s ls)) ∙ q.position ∙ ap (λ r. r.0) (s_right S u w x q t lt))))
+
+      go : HasLead (scalars k) (is_field k) key_same o u → HasLead (scalars k) (is_field k) key_same o w → SDecided u w
+      go (inl z) b = (zero_vector k, inr (refl, λ x q. lead_not_zero S u q.left q.is_left.lead z))
+      go (inr s) (inl z) = (zero_vector k, inr (refl, λ x q. lead_not_zero S w q.right q.is_right.lead z))
+      go (inr s) (inr t) = at s.0 t.0 s.1 t.1 (ℕ_discrete s.0.0 t.0.0)
+
+  s_found : (u w v : Vect S.field) → IsSVector S u w v → (s_decided u w).0 ≡ v
+  s_found u w v q = go (s_decided u w)
+    where
+      go : (d : SDecided u w) → d.0 ≡ v
+      go d = at d.1
+        where
+          at : IsSVector S u w d.0 ⊎ ((d.0 ≡ zero_vector S.field) × ((x : Vect S.field) → ¬ IsSVector S u w x)) → d.0 ≡ v
+          at (inl p) = s_unique S u w d.0 v p q
+          at (inr n) = absurd (n.1 v q)
+
+  -- a monomial of the weight 0 is 1
+  no_exponents : (ws : List ℕ) (i : ℕ) (a : List ℕ) → AllPositive ws → weight ws i a ≡ 0 → (j : ℕ) → exponent a j ≡ 0
+  unfolding weight
+  no_exponents ws i [] h e j = refl
+  no_exponents [] i (x ∷ a) h e zero = nothing (suc i) x (weight [] (suc i) a) (omega arith) e
+    where
+      nothing : (c x r : ℕ) → 0 < c → c * x + r ≡ 0 → x ≡ 0
+      nothing zero x r h e = absurd (omega arith)
+      nothing (suc c) x r h e = omega arith
+  no_exponents [] i (x ∷ a) h e (suc j) = no_exponents [] (suc i) a tt (omega arith) j
+  no_exponents (w ∷ ws) i (x ∷ a) h e zero = nothing w x (weight ws (suc i) a) h.0 e
+    where
+      nothing : (c x r : ℕ) → 0 < c → c * x + r ≡ 0 → x ≡ 0
+      nothing zero x r h e = absurd (omega arith)
+      nothing (suc c) x r h e = omega arith
+  no_exponents (w ∷ ws) i (x ∷ a) h e (suc j) = no_exponents ws (suc i) a h.1 (omega arith) j
+
+  -- a multiple of the same degree is the same
+  pub same_degree : (t l : Key) → KeyDivides t l → degree S l ≤ degree S t → t ≡ l
+  same_degree t l d low =
+      let e = degree_times_key S d.0 t in
+      let f : degree S (times_key d.0 t) ≡ degree S l = ap (degree S) d.1 in
+      let one : d.0 ≡ monomials.one = mon_ext d.0 monomials.one (λ j. no_exponents S.weights 0 d.0.0 positive (omega arith) j ∙ sym (exponent_one j)) in
+      sym (times_key_one t) ∙ ap (λ m. times_key m t) (sym one) ∙ d.1
+
+  -- a member is a sum of multiples with its lead
+  sum_member : (g : ℕ → Vect S.field) (P : Key → Type 0) (i : ℕ) → ((s : Key) → LeadBy S.field (key_order S) (g i) s → P s) → IsSum S g P (g i)
+  sum_member g P i h = subst (IsSum S g P) ((vectors k).one_act _ ∙ shift_product k monomials.one (g i) ∙ ap (λ u. product k u (g i)) (sym (one_vector_single k)) ∙ one_product k (g i))
+      (sum_one S g P (scalars k).one monomials.one i (λ s l. subst P (sym (times_key_one s)) (h s l)))
+
+  -- a sum lies in the module where the members do whose leads may be there
+  module_fewer : (g h : ℕ → Vect S.field) (P : Key → Type 0) → ((i : ℕ) → InModule S.field h (g i) ⊎ ((m : Mon) (s : Key) → LeadBy S.field (key_order S) (g i) s → ¬ P (times_key m s)))
+      → (v : Vect S.field) → IsSum S g P v → InModule S.field h v
+  unfolding zero_vector
+  module_fewer g h P fewer v a = subst (InModule k h) a.is (go a.multiples a.leads)
+    where
+      one : (e : Summand S) → ((s : Key) → LeadBy k o (g e.2) s → P (times_key e.1 s)) → HasLead (scalars k) (is_field k) key_same o (g e.2)
+          → InModule k h (g e.2) ⊎ ((m : Mon) (s : Key) → LeadBy k o (g e.2) s → ¬ P (times_key m s)) → InModule k h ((vectors k).◌·◌ e.0 (shift k e.1 (g e.2)))
+      one e lead l (inl q) = module_act k h e.0 _ (module_shift k h e.1 (g e.2) q)
+      one e lead (inl z) (inr n) = module_act k h e.0 _ (module_shift k h e.1 (g e.2) (subst (InModule k h) (sym z) (module_zero k h)))
+      one e lead (inr r) (inr n) = absurd (n e.1 r.0 r.1 (lead r.0 r.1))
+
+      go : (l : List (Summand S)) → EachLead S g P l → InModule k h (summands k g l)
+      go [] leads = module_zero k h
+      go (e ∷ l) leads = module_plus k h _ _ (one e (λ s. leads e s (inl refl)) (has_lead (scalars k) (is_field k) key_same o (g e.2)) (fewer e.2)) (go l (λ f s i. leads f s (inr i)))
+
+  -- a vector is settled where it is a sum of multiples of members with no lead above its own
+  abbrev Settled : List (Vect S.field) → Vect S.field → Type 0
+  Settled G v = (t : Key) → LeadBy S.field (key_order S) v t → IsSumUpTo S (listed S.field G) t v
+
+  settled_grows : (G H : List (Vect S.field)) → Grows S (listed S.field G) (listed S.field H) → (v : Vect S.field) → Settled G v → Settled H v
+  settled_grows G H grows v h t l = sum_grows S (listed k G) (listed k H) grows (AtMost S t) v (h t l)
+
+  settled_inside : (G : List (Vect S.field)) (v : Vect S.field) → Settled G v → InModule S.field (listed S.field G) v
+  unfolding zero_vector
+  settled_inside G v h = go (has_lead (scalars k) (is_field k) key_same o v)
+    where
+      go : HasLead (scalars k) (is_field k) key_same o v → InModule k (listed k G) v
+      go (inl z) = subst (InModule k (listed k G)) (sym z) (module_zero k (listed k G))
+      go (inr l) = sum_in_module S (listed k G) (AtMost S l.0) v (h l.0 l.1)
+
+  -- a settled S-vector treats its pair
+  settled_treated : (G : List (Vect S.field)) (i j : ℕ) (v : Vect S.field) → IsSVector S (listed S.field G i) (listed S.field G j) v → Settled G v → IsTreated S (listed S.field G) i j
+  unfolding zero_vector
+  settled_treated G i j v q h s t ls lt same = (v, q, subst (λ l. IsSumBelow S (listed k G) l v) (ap₂ common_multiple (s_left S _ _ v q s ls) (s_right S _ _ v q t lt)) (go (has_lead (scalars k) (is_field k) key_same o v)))
+    where
+      go : HasLead (scalars k) (is_field k) key_same o v → IsSumBelow S (listed k G) (common_multiple q.left q.right) v
+      go (inl z) = subst (IsSumBelow S (listed k G) (common_multiple q.left q.right)) (sym z) (sum_zero S (listed k G) (λ x. o.compare x (common_multiple q.left q.right) ≡ Less))
+      go (inr l) = up_to_below S (listed k G) l.0 (common_multiple q.left q.right) v (s_below S _ _ v q l.0 l.1) (h l.0 l.1)
+
+  module _ (gens : List (Vect S.field)) (given : (w : Vect S.field) → In w gens → (d : ℕ) × IsHomogeneous S d w) where
+    abbrev U : Vect S.field → Type 0
+    U = InModule S.field (listed S.field gens)
+
+    hom : (i : ℕ) → (d : ℕ) × IsHomogeneous S d (listed S.field gens i)
+    hom = homogeneous_each S gens given
+
+    graded : IsGradedModule S U
+    graded = module_graded S (listed k gens) hom
+
+    module _ (e : ℕ) where
+      -- the items of the degree e were divided one after the other, and what was left was appended
+      record Round (G items H : List (Vect S.field)) : Type 0 where
+        new : List (Vect S.field)
+        is : H ≡ G ++ new
+        each : (w : Vect S.field) → In w new → U w × IsHomogeneous S e w × ((t : Key) × LeadBy S.field (key_order S) w t)
+        apart : (i j : ℕ) → i < j → length G ≤ j → (s t : Key) → LeadBy S.field (key_order S) (listed S.field H i) s → LeadBy S.field (key_order S) (listed S.field H j) t → (¬ KeyDivides s t) × (degree S t ≡ e)
+        settled : (v : Vect S.field) → In v items → Settled H v
+
+      round_grows : (G items H : List (Vect S.field)) → Round G items H → Grows S (listed S.field G) (listed S.field H)
+      round_grows G items H r = subst (λ L. Grows S (listed k G) (listed k L)) (sym r.is) (grows_append S G r.new)
+
+      appended : (G : List (Vect S.field)) (r : Vect S.field) → Grows S (listed S.field G) (listed S.field (G ++ (r ∷ [])))
+      appended G r = grows_append S G (r ∷ [])
+
+      -- the remainder settles what was divided
+      settles : (G : List (Vect S.field)) (v r : Vect S.field) → IsRemainder S (listed S.field G) v r → Settled (G ++ (r ∷ [])) v
+      settles G v r rem t l =
+          let w = rem.sum t l in
+          subst (IsSumUpTo S (listed k (G ++ (r ∷ []))) t) w.2 (sum_plus S (listed k (G ++ (r ∷ []))) (AtMost S t) r w.0
+          (subst (IsSumUpTo S (listed k (G ++ (r ∷ []))) t) (listed_at k G r []) (sum_member (listed k (G ++ (r ∷ []))) (AtMost S t) (length G)
+          (λ s ls. remainder_low S (listed k G) v r t rem l s (lead_there S r s (subst (λ u. LeadBy k o u s) (listed_at k G r []) ls)))))
+          (sum_grows S (listed k G) (listed k (G ++ (r ∷ []))) (appended G r) (AtMost S t) w.0 w.1))
+
+      settles_zero : (G : List (Vect S.field)) (v r : Vect S.field) → IsRemainder S (listed S.field G) v r → r ≡ zero_vector S.field → Settled G v
+      settles_zero G v r rem z t l = let w = rem.sum t l in subst (IsSumUpTo S (listed k G) t) (sym (zero_plus k w.0) ∙ ap (λ u. plus k u w.0) (sym z) ∙ w.2) w.1
+
+      round : (items G : List (Vect S.field)) → ((v : Vect S.field) → In v items → U v × IsHomogeneous S e v) → ((w : Vect S.field) → In w G → U w × ((d : ℕ) × IsHomogeneous S d w)) → (H : List (Vect S.field)) × Round G items H
+      unfolding zero_vector
+      round [] G are base = (G, record { new = []; is = sym (append-nil G); each = λ w i. absurd i; apart = λ i j less far s t ls lt. absurd (lead_not_zero S (listed k G j) t lt (listed_past k G j far)); settled = λ v i. absurd i })
+      round (v ∷ items) G are base = go (has_lead (scalars k) (is_field k) key_same o rem.0) (round items G (λ w i. are w (inr i)) base) (λ n. round items (G ++ (rem.0 ∷ [])) (λ w i. are w (inr i)) n)
+        where
+          rem : (r : Vect k) × IsRemainder S (listed k G) v r × KeepsDegrees S v r
+          rem = remainder_exists S positive G (homogeneous_each S G (λ w i. (base w i).1)) v e (are v (inl refl)).1
+
+          inside : U rem.0
+          inside = let w = remainder_difference S (listed k G) v rem.0 rem.1 in
+              set_difference S U graded rem.0 v w.0 w.2 (are v (inl refl)).0 (generated_within S U graded (listed k G) (listed_has k U graded.subspace.zero G (λ x i. (base x i).0)) w.0 w.1)
+
+          homog : IsHomogeneous S e rem.0
+          homog = rem.2.homogeneous e (are v (inl refl)).1
+
+          base_more : (w : Vect k) → In w (G ++ (rem.0 ∷ [])) → U w × ((d : ℕ) × IsHomogeneous S d w)
+          base_more w i = at (in_cases w G (rem.0 ∷ []) i)
+            where
+              at : In w G ⊎ In w (rem.0 ∷ []) → U w × ((d : ℕ) × IsHomogeneous S d w)
+              at (inl j) = base w j
+              at (inr (inl p)) = subst (λ u. U u × ((d : ℕ) × IsHomogeneous S d u)) p (inside, (e, homog))
+              at (inr (inr j)) = absurd j
+
+          go : HasLead (scalars k) (is_field k) key_same o rem.0 → ((H : List (Vect k)) × Round G items H)
+              → (((w : Vect k) → In w (G ++ (rem.0 ∷ [])) → U w × ((d : ℕ) × IsHomogeneous S d w)) → (H : List (Vect k)) × Round (G ++ (rem.0 ∷ [])) items H) → (H : List (Vect k)) × Round G (v ∷ items) H
+          go (inl z) q more = (q.0, record { new = q.1.new; is = q.1.is; each = q.1.each; apart = q.1.apart; settled = settled })
+            where
+              settled : (w : Vect k) → In w (v ∷ items) → Settled q.0 w
+              settled w (inl p) = subst (Settled q.0) p (settled_grows G q.0 (round_grows G items q.0 q.1) v (settles_zero G v rem.0 rem.1 z))
+              settled w (inr i) = q.1.settled w i
+          go (inr l) q more = (H, record { new = rem.0 ∷ r.new; is = is; each = each; apart = apart; settled = settled })
+            where
+              both : (H : List (Vect k)) × Round (G ++ (rem.0 ∷ [])) items H
+              both = more base_more
+
+              H : List (Vect k)
+              H = both.0
+
+              r : Round (G ++ (rem.0 ∷ [])) items both.0
+              r = both.1
+
+              is : both.0 ≡ G ++ (rem.0 ∷ both.1.new)
+              is = both.1.is ∙ append_assoc G (rem.0 ∷ []) both.1.new
+
+              each : (w : Vect k) → In w (rem.0 ∷ both.1.new) → U w × IsHomogeneous S e w × ((t : Key) × LeadBy k o w t)
+              each w (inl p) = subst (λ u. U u × IsHomogeneous S e u × ((t : Key) × LeadBy k o u t)) p (inside, homog, l)
+              each w (inr i) = both.1.each w i
+
+              apart : (i j : ℕ) → i < j → length G ≤ j → (s t : Key) → LeadBy k o (listed k both.0 i) s → LeadBy k o (listed k both.0 j) t → (¬ KeyDivides s t) × (degree S t ≡ e)
+              apart i j less far s t ls lt = at (dec_le (suc (length G)) j)
+                where
+                  long : length (G ++ (rem.0 ∷ [])) ≡ length G + 1
+                  long = length-append G (rem.0 ∷ [])
+
+                  at : Dec (suc (length G) ≤ j) → (¬ KeyDivides s t) × (degree S t ≡ e)
+                  at (yes p) = both.1.apart i j less (let a = long in omega arith) s t ls lt
+                  at (no n) =
+                      let here : j ≡ length G = omega arith in
+                      let ej : listed k both.0 j ≡ rem.0 = ap₂ (λ L m. listed k L m) is here ∙ listed_at k G rem.0 both.1.new in
+                      let ei : listed k both.0 i ≡ listed k G i = ap (λ L. listed k L i) is ∙ listed_front k G (rem.0 ∷ both.1.new) i (omega arith) in
+                      let there = lead_there S rem.0 t (subst (λ u. LeadBy k o u t) ej lt) in
+                      (rem.1.irreducible i s t (subst (λ u. LeadBy k o u s) ei ls) there, homog t there)
+
+              settled : (w : Vect k) → In w (v ∷ items) → Settled both.0 w
+              settled w (inl p) = subst (Settled both.0) p (settled_grows (G ++ (rem.0 ∷ [])) both.0 (round_grows (G ++ (rem.0 ∷ [])) items both.0 both.1) v (settles G v rem.0 rem.1))
+              settled w (inr i) = both.1.settled w i
+
+    -- the list is complete below the degree e
+    record IsComplete (e : ℕ) (G : List (Vect S.field)) : Type 0 where
+      inside : (w : Vect S.field) → In w G → U w
+      homogeneous : (w : Vect S.field) → In w G → (d : ℕ) × (d < e) × IsHomogeneous S d w
+      leads : (w : Vect S.field) → In w G → (t : Key) × LeadBy S.field (key_order S) w t
+      generators : (w : Vect S.field) → In w gens → (d : ℕ) → d < e → InModule S.field (listed S.field G) (part S d w)
+      treated : (i j : ℕ) → i < j → (s t : Key) → LeadBy S.field (key_order S) (listed S.field G i) s → LeadBy S.field (key_order S) (listed S.field G j) t → s.0 ≡ t.0 → degree S (common_multiple s t) < e
+          → IsTreated S (listed S.field G) i j
