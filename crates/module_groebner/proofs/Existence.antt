@@ -30,6 +30,7 @@ use Rattle.module_groebner.specs.SVectors.{IsSVector, IsTreated}
 use Rattle.module_groebner.proofs.Sums.{Summand, Grows, sum_zero, sum_plus, sum_one, sum_of_degree, sum_grows, sum_in_module, up_to_below}
 use Rattle.module_groebner.proofs.Remainders.{AtMost, Divided, divided_dec, Irreducible, remainder_exists, remainder_difference, remainder_low, module_difference}
 use Rattle.module_groebner.proofs.SVectors.{s_exists, s_unique, s_left, s_right, s_homogeneous, s_inside, s_below, treated_grows, treated_by}
+use Rattle.module_groebner.proofs.DegreeCriterion.{Found}
 use Rattle.module_groebner.proofs.PairCriterion.{Treats, found_in_degree}
 use Rattle.module_groebner.proofs.Families.{listed_front, listed_past, listed_at, listed_in, member_inside, inside_by_members, grows_append, homogeneous_each}
 use Rattle.module_groebner.proofs.ReducedBases.{IsGradedModule, module_graded, set_difference, generated_within}
@@ -254,3 +255,158 @@ module _ {E : Type 0} (S : SpaceOver E) (positive : AllPositive S.weights) where
       generators : (w : Vect S.field) → In w gens → (d : ℕ) → d < e → InModule S.field (listed S.field G) (part S d w)
       treated : (i j : ℕ) → i < j → (s t : Key) → LeadBy S.field (key_order S) (listed S.field G i) s → LeadBy S.field (key_order S) (listed S.field G j) t → s.0 ≡ t.0 → degree S (common_multiple s t) < e
           → IsTreated S (listed S.field G) i j
+
+    -- leads of smaller degrees are found
+    complete_found : (e : ℕ) (G : List (Vect S.field)) → IsComplete e G → (v : Vect S.field) (t : Key) → U v → LeadBy S.field (key_order S) v t → degree S t < e → Found S (listed S.field G) t
+    complete_found e G c v t uv lead low = found_in_degree S (listed k G) positive (λ i. (family i).0) (λ i. (family i).1) (degree S t)
+        (λ i j less p q lp lq same deg. c.treated i j less p q lp lq same (omega arith)) w t (graded_part_graded k (degree S) (degree S t) v) inside (part_lead S v t lead)
+      where
+        family : (i : ℕ) → (d : ℕ) × IsHomogeneous S d (listed k G i)
+        family = homogeneous_each S G (λ x i. let h = c.homogeneous x i in (h.0, h.2))
+
+        w : Vect k
+        w = part S (degree S t) v
+
+        l : (l : List (Summand S)) × (summands k (listed k gens) l ≡ w)
+        l = module_summands k o (listed k gens) w (graded.part (degree S t) v uv)
+
+        sum : IsSum S (listed k gens) (λ x. Unit {0} × (degree S x ≡ degree S t)) w
+        sum = sum_of_degree S (listed k gens) (λ i. (hom i).0) (λ i. (hom i).1) (λ x. Unit {0}) (degree S t) w (graded_part_graded k (degree S) (degree S t) v) record { multiples = l.0; leads = λ x s i r. tt; is = l.1 }
+
+        fewer : (i : ℕ) → InModule k (listed k G) (listed k gens i) ⊎ ((m : Mon) (s : Key) → LeadBy k o (listed k gens i) s → ¬ (Unit {0} × (degree S (times_key m s) ≡ degree S t)))
+        fewer i = go (dec_le (suc i) (length gens)) (dec_le (suc (hom i).0) e)
+          where
+            go : Dec (i < length gens) → Dec ((hom i).0 < e) → InModule k (listed k G) (listed k gens i) ⊎ ((m : Mon) (s : Key) → LeadBy k o (listed k gens i) s → ¬ (Unit {0} × (degree S (times_key m s) ≡ degree S t)))
+            go (yes p) (yes q) = inl (subst (InModule k (listed k G)) (graded_part_all k (degree S) (hom i).0 (listed k gens i) (hom i).1) (c.generators (listed k gens i) (listed_in k gens i p) (hom i).0 q))
+            go (no p) q = inl (subst (InModule k (listed k G)) (sym (listed_past k gens i (omega arith))) (module_zero k (listed k G)))
+            go (yes p) (no q) = inr (λ m s ls d.
+                let a : degree S s ≡ (hom i).0 = (hom i).1 s (lead_there S (listed k gens i) s ls) in
+                let b = degree_times_key S m s in
+                let f = d.1 in
+                omega arith)
+
+        inside : InModule k (listed k G) w
+        inside = module_fewer (listed k gens) (listed k G) (λ x. Unit {0} × (degree S x ≡ degree S t)) fewer w sum
+
+    -- the items of a degree: the parts of the generators and of the S-vectors
+    pair_item : (G : List (Vect S.field)) (e : ℕ) → ℕ → ℕ → Vect S.field
+    pair_item G e i j = part S e (s_decided (listed k G i) (listed k G j)).0
+
+    items_of : (e : ℕ) (G : List (Vect S.field)) → List (Vect S.field)
+    items_of e G = map (part S e) gens ++ pairs (pair_item G e) (numbers_below (length G)) (numbers_below (length G))
+
+    items_are : (e : ℕ) (G : List (Vect S.field)) → ((w : Vect S.field) → In w G → U w) → (v : Vect S.field) → In v (items_of e G) → U v × IsHomogeneous S e v
+    unfolding items_of pair_item
+    items_are e G inside v i = go (in_cases v (map (part S e) gens) _ i)
+      where
+        place : (i : ℕ) → U (listed k G i)
+        place = listed_has k U graded.subspace.zero G inside
+
+        s_inside_of : (i j : ℕ) → (d : SDecided (listed k G i) (listed k G j)) → U d.0
+        s_inside_of i j d = at d.1
+          where
+            at : IsSVector S (listed k G i) (listed k G j) d.0 ⊎ ((d.0 ≡ zero_vector k) × ((x : Vect k) → ¬ IsSVector S (listed k G i) (listed k G j) x)) → U d.0
+            at (inl s) = s_inside S (listed k G i) (listed k G j) d.0 s (listed k gens) (place i) (place j)
+            at (inr z) = subst U (sym z.0) graded.subspace.zero
+
+        go : In v (map (part S e) gens) ⊎ In v (pairs (pair_item G e) (numbers_below (length G)) (numbers_below (length G))) → U v × IsHomogeneous S e v
+        go (inl j) = let w = from_map (part S e) v gens j in
+            subst (λ u. U u × IsHomogeneous S e u) w.2 (graded.part e w.0 (member_inside k gens w.0 w.1), graded_part_graded k (degree S) e w.0)
+        go (inr j) = let p = from_pairs (pair_item G e) v (numbers_below (length G)) (numbers_below (length G)) j in
+            subst (λ u. U u × IsHomogeneous S e u) p.4 (graded.part e _ (s_inside_of p.0 p.1 (s_decided (listed k G p.0) (listed k G p.1))), graded_part_graded k (degree S) e _)
+
+    -- one degree more
+    complete_more : (e : ℕ) (G : List (Vect S.field)) → IsComplete e G → (H : List (Vect S.field)) × IsComplete (suc e) H
+    unfolding items_of pair_item
+    complete_more e G c = (r.0, record { inside = inside; homogeneous = homogeneous; leads = leads; generators = generators; treated = treated })
+      where
+        r : (H : List (Vect k)) × Round e G (items_of e G) H
+        r = round e (items_of e G) G (items_are e G c.inside) (λ w i. (c.inside w i, (let h = c.homogeneous w i in (h.0, h.2))))
+
+        H : List (Vect k)
+        H = r.0
+
+        grows : Grows S (listed k G) (listed k r.0)
+        grows = round_grows e G (items_of e G) r.0 r.1
+
+        cases : (w : Vect k) → In w r.0 → In w G ⊎ In w r.1.new
+        cases w i = in_cases w G r.1.new (subst (In w) r.1.is i)
+
+        inside : (w : Vect k) → In w r.0 → U w
+        inside w i = at (cases w i)
+          where
+            at : In w G ⊎ In w r.1.new → U w
+            at (inl j) = c.inside w j
+            at (inr j) = (r.1.each w j).0
+
+        homogeneous : (w : Vect k) → In w r.0 → (d : ℕ) × (d < suc e) × IsHomogeneous S d w
+        homogeneous w i = at (cases w i)
+          where
+            at : In w G ⊎ In w r.1.new → (d : ℕ) × (d < suc e) × IsHomogeneous S d w
+            at (inl j) = let h = c.homogeneous w j in (h.0, (let l = h.1 in omega arith), h.2)
+            at (inr j) = (e, omega arith, (r.1.each w j).1)
+
+        leads : (w : Vect k) → In w r.0 → (t : Key) × LeadBy k o w t
+        leads w i = at (cases w i)
+          where
+            at : In w G ⊎ In w r.1.new → (t : Key) × LeadBy k o w t
+            at (inl j) = c.leads w j
+            at (inr j) = (r.1.each w j).2
+
+        old_new : (v : Vect k) → InModule k (listed k G) v → InModule k (listed k r.0) v
+        old_new = inside_by_members k G (listed k r.0) (λ w i. member_inside k r.0 w (subst (In w) (sym r.1.is) (in_left w G r.1.new i)))
+
+        generators : (w : Vect k) → In w gens → (d : ℕ) → d < suc e → InModule k (listed k r.0) (part S d w)
+        generators w i d low = at (dec_le (suc d) e)
+          where
+            at : Dec (d < e) → InModule k (listed k r.0) (part S d w)
+            at (yes p) = old_new (part S d w) (c.generators w i d p)
+            at (no n) = let same : e ≡ d = omega arith in subst (λ x. InModule k (listed k r.0) (part S x w)) same
+                (settled_inside r.0 (part S e w) (r.1.settled (part S e w) (in_left (part S e w) (map (part S e) gens) _ (map_in (part S e) w gens i))))
+
+        treated : (i j : ℕ) → i < j → (s t : Key) → LeadBy k o (listed k r.0 i) s → LeadBy k o (listed k r.0 j) t → s.0 ≡ t.0 → degree S (common_multiple s t) < suc e → IsTreated S (listed k r.0) i j
+        treated i j less s t ls lt same low = at (dec_le (suc j) (length G))
+          where
+            at : Dec (j < length G) → IsTreated S (listed k r.0) i j
+            at (yes hj) = which (dec_le (suc (degree S (common_multiple s t))) e)
+              where
+                ei : listed k r.0 i ≡ listed k G i
+                ei = ap (λ L. listed k L i) r.1.is ∙ listed_front k G r.1.new i (omega arith)
+
+                ej : listed k r.0 j ≡ listed k G j
+                ej = ap (λ L. listed k L j) r.1.is ∙ listed_front k G r.1.new j hj
+
+                gi : LeadBy k o (listed k G i) s
+                gi = subst (λ u. LeadBy k o u s) ei ls
+
+                gj : LeadBy k o (listed k G j) t
+                gj = subst (λ u. LeadBy k o u t) ej lt
+
+                family : (i : ℕ) → (d : ℕ) × IsHomogeneous S d (listed k G i)
+                family = homogeneous_each S G (λ x i. let h = c.homogeneous x i in (h.0, h.2))
+
+                which : Dec (degree S (common_multiple s t) < e) → IsTreated S (listed k r.0) i j
+                which (yes p) = treated_grows S (listed k G) (listed k r.0) grows i j ei ej (c.treated i j less s t gi gj same p)
+                which (no n) =
+                    let v = s_exists S (listed k G i) (listed k G j) s t gi gj same in
+                    let deg : degree S (common_multiple v.1.left v.1.right) ≡ e = ap (degree S) (ap₂ common_multiple (s_left S _ _ v.0 v.1 s gi) (s_right S _ _ v.0 v.1 t gj)) ∙ (omega arith) in
+                    let hv : IsHomogeneous S e v.0 = subst (λ n. IsHomogeneous S n v.0) deg (s_homogeneous S (listed k G i) (listed k G j) v.0 v.1 (family i).0 (family j).0 (family i).1 (family j).1) in
+                    let is : pair_item G e i j ≡ v.0 = ap (part S e) (s_found (listed k G i) (listed k G j) v.0 v.1) ∙ graded_part_all k (degree S) e v.0 hv in
+                    let item = in_right (pair_item G e i j) (map (part S e) gens) _ (in_pairs (pair_item G e) i j (numbers_below (length G)) (numbers_below (length G)) (in_numbers_below i (length G) (omega arith)) (in_numbers_below j (length G) hj)) in
+                    settled_treated r.0 i j v.0 (subst (λ u. IsSVector S u (listed k r.0 j) v.0) (sym ei) (subst (λ u. IsSVector S (listed k G i) u v.0) (sym ej) v.1)) (subst (Settled r.0) is (r.1.settled (pair_item G e i j) item))
+            at (no far) =
+                let a = r.1.apart i j less (omega arith) s t ls lt in
+                let d = key_lcm_right s t same in
+                let b = a.1 in
+                let l : t ≡ common_multiple s t = same_degree t (common_multiple s t) d (omega arith) in
+                absurd (a.0 (subst (KeyDivides s) (sym l) (key_lcm_left s t)))
+
+    complete : (e : ℕ) → (G : List (Vect S.field)) × IsComplete e G
+    complete zero = ([], record {
+      inside = λ w i. absurd i;
+      homogeneous = λ w i. absurd i;
+      leads = λ w i. absurd i;
+      generators = λ w i d h. absurd (omega arith);
+      treated = λ i j less s t ls lt same h. absurd (omega arith);
+    })
+    complete (suc e) = let r = complete e in complete_more e r.0 r.1
