@@ -27,6 +27,8 @@ use Rattle.poly_module.proofs.ModuleElements.{module_zero, module_plus, module_a
 use Rattle.poly_module.proofs.Reduced.{divides_trans, listed_has}
 use Rattle.module_groebner.specs.Remainders.{EachLead, IsSum, IsSumBelow, IsSumUpTo, IsRemainder, KeepsDegrees}
 use Rattle.module_groebner.specs.SVectors.{IsSVector, IsTreated}
+use Rattle.module_groebner.specs.BasisBounds.{NothingAbove, SomeAbove}
+use Rattle.poly_module.specs.Parts.{supp_zero}
 use Rattle.module_groebner.proofs.Sums.{Summand, Grows, sum_zero, sum_plus, sum_one, sum_of_degree, sum_grows, sum_in_module, up_to_below}
 use Rattle.module_groebner.proofs.Remainders.{AtMost, Divided, divided_dec, Irreducible, remainder_exists, remainder_difference, remainder_low, module_difference}
 use Rattle.module_groebner.proofs.SVectors.{s_exists, s_unique, s_left, s_right, s_homogeneous, s_inside, s_below, treated_grows, treated_by}
@@ -410,3 +412,165 @@ module _ {E : Type 0} (S : SpaceOver E) (positive : AllPositive S.weights) where
       treated = λ i j less s t ls lt same h. absurd (omega arith);
     })
     complete (suc e) = let r = complete e in complete_more e r.0 r.1
+
+    -- each item has the remainder 0, or one has another
+    module _ (G : List (Vect S.field)) (homogeneous : (i : ℕ) → (d : ℕ) × IsHomogeneous S d (listed S.field G i)) where
+      record Rest : Type 0 where
+        item : Vect S.field
+        remainder : Vect S.field
+        degree : ℕ
+        lead : Key
+        inside : U item
+        is_remainder : IsRemainder S (listed S.field G) item remainder
+        is_homogeneous : IsHomogeneous S degree remainder
+        is_lead : LeadBy S.field (key_order S) remainder lead
+
+      all_or_rest : (items : List (Vect S.field)) → ((v : Vect S.field) → In v items → U v × ((d : ℕ) × IsHomogeneous S d v)) → ((v : Vect S.field) → In v items → Settled G v) ⊎ Rest
+      unfolding zero_vector
+      all_or_rest [] are = inl (λ v i. absurd i)
+      all_or_rest (v ∷ items) are = go (has_lead (scalars k) (is_field k) key_same o rem.0) (all_or_rest items (λ w i. are w (inr i)))
+        where
+          rem : (r : Vect k) × IsRemainder S (listed k G) v r × KeepsDegrees S v r
+          rem = let a = are v (inl refl) in remainder_exists S positive G homogeneous v a.1.0 a.1.1
+
+          go : HasLead (scalars k) (is_field k) key_same o rem.0 → ((w : Vect k) → In w items → Settled G w) ⊎ Rest → ((w : Vect k) → In w (v ∷ items) → Settled G w) ⊎ Rest
+          go (inr l) q = inr (record {
+            item = v;
+            remainder = rem.0;
+            degree = (are v (inl refl)).1.0;
+            lead = l.0;
+            inside = (are v (inl refl)).0;
+            is_remainder = rem.1;
+            is_homogeneous = rem.2.homogeneous (are v (inl refl)).1.0 (are v (inl refl)).1.1;
+            is_lead = l.1;
+          })
+          go (inl z) (inr q) = inr q
+          go (inl z) (inl h) = inl each
+            where
+              each : (w : Vect k) → In w (v ∷ items) → Settled G w
+              each w (inl p) = subst (Settled G) p (settles_zero 0 G v rem.0 rem.1 z)
+              each w (inr i) = h w i
+
+    -- the members with their leads
+    rows_of : (G : List (Vect S.field)) → ((w : Vect S.field) → In w G → (t : Key) × LeadBy S.field (key_order S) w t) → (l : List (Row S)) × ((e : Row S) → In e l → In e.0 G × LeadBy S.field (key_order S) e.0 e.1) × ((w : Vect S.field) → In w G → (e : Row S) × In e l × (e.0 ≡ w))
+    rows_of [] h = ([], (λ e i. absurd i), λ w i. absurd i)
+    rows_of (v ∷ G) h = go (h v (inl refl)) (rows_of G (λ w i. h w (inr i)))
+      where
+        go : ((t : Key) × LeadBy k o v t) → ((l : List (Row S)) × ((e : Row S) → In e l → In e.0 G × LeadBy k o e.0 e.1) × ((w : Vect k) → In w G → (e : Row S) × In e l × (e.0 ≡ w)))
+            → (l : List (Row S)) × ((e : Row S) → In e l → In e.0 (v ∷ G) × LeadBy k o e.0 e.1) × ((w : Vect k) → In w (v ∷ G) → (e : Row S) × In e l × (e.0 ≡ w))
+        go t r = ((v, t.0) ∷ r.0, each, row)
+          where
+            each : (e : Row S) → In e ((v, t.0) ∷ r.0) → In e.0 (v ∷ G) × LeadBy k o e.0 e.1
+            each e (inl p) = (inl (ap (λ f. f.0) p), subst (λ f. LeadBy k o f.0 f.1) p t.1)
+            each e (inr i) = let q = r.1 e i in (inr q.0, q.1)
+
+            row : (w : Vect k) → In w (v ∷ G) → (e : Row S) × In e ((v, t.0) ∷ r.0) × (e.0 ≡ w)
+            row w (inl p) = ((v, t.0), inl refl, p)
+            row w (inr i) = let q = r.2 w i in (q.0, inr q.1, q.2)
+
+    -- the module has a reduced basis and nothing above the cap, or an element above the cap
+    pub basis_or_above : (cap : ℕ) → ((vs : List (Vect S.field)) × IsReducedBasisOf S (InModule S.field (listed S.field gens)) vs × NothingAbove S (InModule S.field (listed S.field gens)) cap)
+        ⊎ SomeAbove S (InModule S.field (listed S.field gens)) cap
+    basis_or_above cap = result (all_or_rest G family items are)
+      where
+        done : (G : List (Vect k)) × IsComplete (suc cap) G
+        done = complete (suc cap)
+
+        G : List (Vect k)
+        G = done.0
+
+        family : (i : ℕ) → (d : ℕ) × IsHomogeneous S d (listed k done.0 i)
+        family = homogeneous_each S done.0 (λ x i. let h = done.1.homogeneous x i in (h.0, h.2))
+
+        item : ℕ → ℕ → Vect k
+        item i j = (s_decided (listed k done.0 i) (listed k done.0 j)).0
+
+        items : List (Vect k)
+        items = gens ++ pairs item (numbers_below (length done.0)) (numbers_below (length done.0))
+
+        place : (i : ℕ) → U (listed k done.0 i)
+        place = listed_has k U graded.subspace.zero done.0 done.1.inside
+
+        item_is : (i j : ℕ) → (d : SDecided (listed k done.0 i) (listed k done.0 j)) → U d.0 × ((n : ℕ) × IsHomogeneous S n d.0)
+        item_is i j d = at d.1
+          where
+            at : IsSVector S (listed k done.0 i) (listed k done.0 j) d.0 ⊎ ((d.0 ≡ zero_vector k) × ((x : Vect k) → ¬ IsSVector S (listed k done.0 i) (listed k done.0 j) x)) → U d.0 × ((n : ℕ) × IsHomogeneous S n d.0)
+            at (inl s) = (s_inside S (listed k done.0 i) (listed k done.0 j) d.0 s (listed k gens) (place i) (place j), (degree S (common_multiple s.left s.right), s_homogeneous S (listed k done.0 i) (listed k done.0 j) d.0 s (family i).0 (family j).0 (family i).1 (family j).1))
+            at (inr z) = (subst U (sym z.0) graded.subspace.zero, (0, subst (IsHomogeneous S 0) (sym z.0) (supp_zero k (λ t. degree S t ≡ 0))))
+
+        are : (v : Vect k) → In v (gens ++ pairs item (numbers_below (length done.0)) (numbers_below (length done.0))) → U v × ((d : ℕ) × IsHomogeneous S d v)
+        are v i = go (in_cases v gens _ i)
+          where
+            go : In v gens ⊎ In v (pairs item (numbers_below (length done.0)) (numbers_below (length done.0))) → U v × ((d : ℕ) × IsHomogeneous S d v)
+            go (inl j) = (member_inside k gens v j, given v j)
+            go (inr j) = let p = from_pairs item v (numbers_below (length done.0)) (numbers_below (length done.0)) j in
+                subst (λ u. U u × ((d : ℕ) × IsHomogeneous S d u)) p.4 (item_is p.0 p.1 (s_decided (listed k done.0 p.0) (listed k done.0 p.1)))
+
+        rest : Rest done.0 family → SomeAbove S (InModule k (listed k gens)) cap
+        rest r = (r.remainder, r.lead, record {
+          inside = inside;
+          lead = r.is_lead;
+          homogeneous = subst (λ n. IsHomogeneous S n r.remainder) (sym at) r.is_homogeneous;
+          over = over (dec_le (suc cap) (degree S r.lead));
+          new = λ w s uw up ls d. let low = up s (lead_there S w s ls) in undivided s (complete_found (suc cap) done.0 done.1 w s uw ls (omega arith)) d;
+        })
+          where
+            inside : U r.remainder
+            inside = let w = remainder_difference S (listed k done.0) r.item r.remainder r.is_remainder in
+                set_difference S U graded r.remainder r.item w.0 w.2 r.inside (generated_within S U graded (listed k done.0) place w.0 w.1)
+
+            at : degree S r.lead ≡ r.degree
+            at = r.is_homogeneous r.lead (lead_there S r.remainder r.lead r.is_lead)
+
+            undivided : (s : Key) → Found S (listed k done.0) s → ¬ KeyDivides s r.lead
+            undivided s f d = r.is_remainder.irreducible f.0 f.1 r.lead f.2 (lead_there S r.remainder r.lead r.is_lead) (divides_trans S (listed k done.0) f.1 s r.lead f.3 d)
+
+            over : Dec (cap < degree S r.lead) → cap < degree S r.lead
+            over (yes p) = p
+            over (no n) = absurd (undivided r.lead (complete_found (suc cap) done.0 done.1 r.remainder r.lead inside r.is_lead (omega arith)) (monomials.one, times_key_one r.lead))
+
+        finished : ((v : Vect k) → In v (gens ++ pairs item (numbers_below (length done.0)) (numbers_below (length done.0))) → Settled done.0 v)
+            → (vs : List (Vect k)) × IsReducedBasisOf S (InModule k (listed k gens)) vs × NothingAbove S (InModule k (listed k gens)) cap
+        finished settled = (made.0, made.1, nothing)
+          where
+            within : (v : Vect k) → U v → InModule k (listed k done.0) v
+            within = inside_by_members k gens (listed k done.0) (λ w i. settled_inside done.0 w (settled w (in_left w gens _ i)))
+
+            low : (i : ℕ) (s : Key) → LeadBy k o (listed k done.0 i) s → i < length done.0
+            low i s l = go (dec_le (suc i) (length done.0))
+              where
+                go : Dec (i < length done.0) → i < length done.0
+                go (yes p) = p
+                go (no n) = absurd (lead_not_zero S (listed k done.0 i) s l (listed_past k done.0 i (omega arith)))
+
+            treated : (i j : ℕ) → i < j → IsTreated S (listed k done.0) i j
+            treated i j less s t ls lt same =
+                let v = s_exists S (listed k done.0 i) (listed k done.0 j) s t ls lt same in
+                let here = settled (item i j) (in_right (item i j) gens _ (in_pairs item i j (numbers_below (length done.0)) (numbers_below (length done.0)) (in_numbers_below i (length done.0) (low i s ls)) (in_numbers_below j (length done.0) (low j t lt)))) in
+                settled_treated done.0 i j v.0 v.1 (subst (Settled done.0) (s_found (listed k done.0 i) (listed k done.0 j) v.0 v.1) here) s t ls lt same
+
+            basis : IsGroebnerBasis k (listed k done.0) o
+            basis = treated_basis S positive (listed k done.0) family treated
+
+            rows : (l : List (Row S)) × ((e : Row S) → In e l → In e.0 done.0 × LeadBy k o e.0 e.1) × ((w : Vect k) → In w done.0 → (e : Row S) × In e l × (e.0 ≡ w))
+            rows = rows_of done.0 done.1.leads
+
+            covers : (v : Vect k) (t : Key) → U v → LeadBy k o v t → (e : Row S) × In e rows.0 × KeyDivides e.1 t
+            covers v t uv l =
+                let f = basis v t (within v uv) l in
+                let e = rows.2 (listed k done.0 f.0) (listed_in k done.0 f.0 (low f.0 f.1 f.2)) in
+                (e.0, e.1, subst (λ s. KeyDivides s t) (lead_unique (scalars k) (is_field k) key_same o e.0.0 f.1 e.0.1 (subst (λ u. LeadBy k o u f.1) (sym e.2) f.2) (rows.1 e.0 e.1).1) f.3)
+
+            made : (vs : List (Vect k)) × IsReducedBasisOf S (InModule k (listed k gens)) vs
+            made = reduced_exists S U graded positive rows.0 (λ e i. let r = rows.1 e i in let h = done.1.homogeneous e.0 r.0 in record { lead = r.1; inside = done.1.inside e.0 r.0; degree = h.0; homogeneous = h.2 }) covers
+
+            nothing : NothingAbove S (InModule k (listed k gens)) cap
+            nothing v t a =
+                let f = basis v t (within v a.inside) a.lead in
+                let h = done.1.homogeneous (listed k done.0 f.0) (listed_in k done.0 f.0 (low f.0 f.1 f.2)) in
+                a.new (listed k done.0 f.0) f.1 (place f.0) (λ x nz. let d = h.2 x nz in let b = h.1 in omega arith) f.2 f.3
+
+        result : ((v : Vect k) → In v (gens ++ pairs item (numbers_below (length done.0)) (numbers_below (length done.0))) → Settled done.0 v) ⊎ Rest done.0 family
+            → ((vs : List (Vect k)) × IsReducedBasisOf S (InModule k (listed k gens)) vs × NothingAbove S (InModule k (listed k gens)) cap) ⊎ SomeAbove S (InModule k (listed k gens)) cap
+        result (inl h) = inl (finished h)
+        result (inr r) = inr (rest r)
