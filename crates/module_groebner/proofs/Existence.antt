@@ -12,34 +12,32 @@ use Rattle.alg_core.specs.Lists.{In, in_left, in_right, map_in, pairs, in_pairs,
 use Rattle.alg_core.specs.Spaces.{SpaceOver}
 use Rattle.alg_core.specs.SpaceOrder.{key_order}
 use Rattle.alg_core.specs.SpaceGrading.{AllPositive, weight, degree, degree_times_key}
-use Rattle.alg_core.specs.Vectors.{Vect, vectors, coef_at, plus, zero_vector, shift}
+use Rattle.alg_core.specs.Vectors.{Vect, vectors, plus, zero_vector, shift}
 use Rattle.alg_core.proofs.Members.{in_cases, from_map, from_pairs}
 use Rattle.alg_core.proofs.KeyMultiples.{key_lcm_left, key_lcm_right}
 use Rattle.alg_core.proofs.VectorLaws.{zero_plus}
-use Rattle.poly_module.specs.Polynomials.{single_vector, one_vector, product}
+use Rattle.poly_module.specs.Polynomials.{product}
 use Rattle.poly_module.specs.Products.{shift_product, one_product, one_vector_single}
-use Rattle.poly_module.specs.Degrees.{IsHomogeneous, part, graded_part_graded, graded_part_all, graded_part_zero}
+use Rattle.poly_module.specs.Degrees.{IsHomogeneous, part, graded_part_graded, graded_part_all}
 use Rattle.poly_module.specs.Modules.{LeadBy, InModule, IsGroebnerBasis, listed, summands}
 use Rattle.poly_module.specs.ReducedLists.{IsReducedBasisOf}
-use Rattle.poly_module.specs.SpaceVectors.{IsUpTo}
-use Rattle.poly_module.specs.Caps.{IsAboveCap}
-use Rattle.poly_module.proofs.ModuleElements.{module_zero, module_plus, module_act, module_shift, module_member, module_summands}
+use Rattle.poly_module.proofs.ModuleElements.{module_zero, module_plus, module_act, module_shift, module_summands}
 use Rattle.poly_module.proofs.Reduced.{divides_trans, listed_has}
 use Rattle.module_groebner.specs.Remainders.{EachLead, IsSum, IsSumBelow, IsSumUpTo, IsRemainder, KeepsDegrees}
 use Rattle.module_groebner.specs.SVectors.{IsSVector, IsTreated}
 use Rattle.module_groebner.specs.BasisBounds.{NothingAbove, SomeAbove}
 use Rattle.poly_module.specs.Parts.{supp_zero}
 use Rattle.module_groebner.proofs.Sums.{Summand, Grows, sum_zero, sum_plus, sum_one, sum_of_degree, sum_grows, sum_in_module, up_to_below}
-use Rattle.module_groebner.proofs.Remainders.{AtMost, Divided, divided_dec, Irreducible, remainder_exists, remainder_difference, remainder_low, module_difference}
-use Rattle.module_groebner.proofs.SVectors.{s_exists, s_unique, s_left, s_right, s_homogeneous, s_inside, s_below, treated_grows, treated_by}
+use Rattle.module_groebner.proofs.Remainders.{AtMost, remainder_exists, remainder_difference, remainder_low}
+use Rattle.module_groebner.proofs.SVectors.{s_exists, s_unique, s_left, s_right, s_homogeneous, s_inside, s_below, treated_grows}
 use Rattle.module_groebner.proofs.DegreeCriterion.{Found}
-use Rattle.module_groebner.proofs.PairCriterion.{Treats, found_in_degree}
+use Rattle.module_groebner.proofs.PairCriterion.{found_in_degree}
 use Rattle.module_groebner.proofs.Families.{listed_front, listed_past, listed_at, listed_in, member_inside, inside_by_members, grows_append, homogeneous_each}
 use Rattle.module_groebner.proofs.ReducedBases.{IsGradedModule, module_graded, set_difference, generated_within}
-use Rattle.module_groebner.proofs.CompletionEnds.{part_lead, lead_there, lead_not_zero, sum_fewer}
-use Rattle.module_groebner.proofs.BasisLaws.{divisor_degree, treated_basis}
+use Rattle.module_groebner.proofs.CompletionEnds.{part_lead, lead_there, lead_not_zero}
+use Rattle.module_groebner.proofs.BasisLaws.{treated_basis}
 use Rattle.module_groebner.proofs.ReducedLists.{Row}
-use Rattle.module_groebner.proofs.ReducedExistence.{IsRowOf, reduced_exists}
+use Rattle.module_groebner.proofs.ReducedExistence.{reduced_exists}
 
 module _ {E : Type 0} (S : SpaceOver E) (positive : AllPositive S.weights) where
   abbrev k : FieldOn E
@@ -404,13 +402,16 @@ module _ {E : Type 0} (S : SpaceOver E) (positive : AllPositive S.weights) where
                 absurd (a.0 (subst (KeyDivides s) (sym l) (key_lcm_left s t)))
 
     complete : (e : ℕ) → (G : List (Vect S.field)) × IsComplete e G
-    complete zero = ([], record {
-      inside = λ w i. absurd i;
-      homogeneous = λ w i. absurd i;
-      leads = λ w i. absurd i;
-      generators = λ w i d h. absurd (omega arith);
-      treated = λ i j less s t ls lt same h. absurd (omega arith);
-    })
+    complete zero = (
+      [],
+      record {
+        inside = λ w i. absurd i;
+        homogeneous = λ w i. absurd i;
+        leads = λ w i. absurd i;
+        generators = λ w i d h. absurd (omega arith);
+        treated = λ i j less s t ls lt same h. absurd (omega arith);
+      },
+    )
     complete (suc e) = let r = complete e in complete_more e r.0 r.1
 
     -- each item has the remainder 0, or one has another
@@ -507,13 +508,17 @@ module _ {E : Type 0} (S : SpaceOver E) (positive : AllPositive S.weights) where
                 subst (λ u. U u × ((d : ℕ) × IsHomogeneous S d u)) p.4 (item_is p.0 p.1 (s_decided (listed k done.0 p.0) (listed k done.0 p.1)))
 
         rest : Rest done.0 family → SomeAbove S (InModule k (listed k gens)) cap
-        rest r = (r.remainder, r.lead, record {
-          inside = inside;
-          lead = r.is_lead;
-          homogeneous = subst (λ n. IsHomogeneous S n r.remainder) (sym at) r.is_homogeneous;
-          over = over (dec_le (suc cap) (degree S r.lead));
-          new = λ w s uw up ls d. let low = up s (lead_there S w s ls) in undivided s (complete_found (suc cap) done.0 done.1 w s uw ls (omega arith)) d;
-        })
+        rest r = (
+          r.remainder,
+          r.lead,
+          record {
+            inside = inside;
+            lead = r.is_lead;
+            homogeneous = subst (λ n. IsHomogeneous S n r.remainder) (sym at) r.is_homogeneous;
+            over = over (dec_le (suc cap) (degree S r.lead));
+            new = λ w s uw up ls d. let low = up s (lead_there S w s ls) in undivided s (complete_found (suc cap) done.0 done.1 w s uw ls (omega arith)) d;
+          },
+        )
           where
             inside : U r.remainder
             inside = let w = remainder_difference S (listed k done.0) r.item r.remainder r.is_remainder in

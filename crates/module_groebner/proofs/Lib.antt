@@ -14,3 +14,4 @@ pub mod Eliminations
 pub mod ReducedLists
 pub mod ReducedExistence
 pub mod Existence
+pub mod ListLaws

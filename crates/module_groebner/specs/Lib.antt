@@ -4,3 +4,4 @@ pub mod SVectors
 pub mod BasisBounds
 pub mod Progress
 pub mod Completions
+pub mod Eliminations
