@@ -15,3 +15,7 @@ pub mod ReducedLists
 pub mod ReducedExistence
 pub mod Existence
 pub mod ListLaws
+pub mod MergeSteps
+pub mod ReductionSteps
+pub mod DivisionSteps
+pub mod PairSteps

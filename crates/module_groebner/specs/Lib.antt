@@ -5,3 +5,4 @@ pub mod BasisBounds
 pub mod Progress
 pub mod Completions
 pub mod Eliminations
+pub mod Reductions
