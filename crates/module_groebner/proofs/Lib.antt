@@ -19,3 +19,4 @@ pub mod MergeSteps
 pub mod ReductionSteps
 pub mod DivisionSteps
 pub mod PairSteps
+pub mod Transports
