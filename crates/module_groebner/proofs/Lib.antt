@@ -20,3 +20,5 @@ pub mod ReductionSteps
 pub mod DivisionSteps
 pub mod PairSteps
 pub mod Transports
+pub mod CriterionSteps
+pub mod BasisSteps

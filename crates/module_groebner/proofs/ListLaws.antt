@@ -35,7 +35,7 @@ module _ {E : Type 0} (S : SpaceOver E) where
   pub family : (vs : List (Vect S.field)) → AreHomogeneous S vs → (i : ℕ) → (d : ℕ) × IsHomogeneous S d (listed S.field vs i)
   family vs h = homogeneous_each S vs (each_homogeneous vs h)
 
-  fitting : (vs : List (Vect S.field)) → ((w : Vect S.field) → In w vs → Supp S.field (FitsOrder S) w) → (i : ℕ) → Supp S.field (FitsOrder S) (listed S.field vs i)
+  pub fitting : (vs : List (Vect S.field)) → ((w : Vect S.field) → In w vs → Supp S.field (FitsOrder S) w) → (i : ℕ) → Supp S.field (FitsOrder S) (listed S.field vs i)
   fitting = listed_has S.field (Supp S.field (FitsOrder S)) (supp_zero S.field (FitsOrder S))
 
   pub remainder_of : IsPositive S → (vs : List (Vect S.field)) → AreHomogeneous S vs → (v : Vect S.field) (d : ℕ) → IsHomogeneous S d v → (r : Vect S.field) × IsRemainder S (listed S.field vs) v r × KeepsDegrees S v r

@@ -21,7 +21,7 @@ loop-i-preserved g c =
     let t = key (place (λ m. m) c.args.at.now) in
     passed S (λ m. m) c.args.list.now c.loop-i.i c.index-list-i.result t c.loop-i-test.true c.index-list-i.is
     (elim c.match-lead.branch [
-      in-Some+else-divides w ↦ λ s l d. not_both _ (w.divides.ensures.is.1 (subst (λ x. KeyDivides x t) (same_lead S (vector_of S (λ m. m) c.index-list-i.result) _ _ l w.in-Some.ensures.lead) d)) w.if-divides.false
+      | in-Some+else-divides w ↦ λ s l d. not_both _ (w.divides.ensures.is.1 (subst (λ x. KeyDivides x t) (same_lead S (vector_of S (λ m. m) c.index-list-i.result) _ _ l w.in-Some.ensures.lead) d)) w.if-divides.false
       | in_default w ↦ λ s l d. lead_not_zero S (vector_of S (λ m. m) c.index-list-i.result) s l (c.lead.ensures.none.0 (subst IsNone (sym w.in_default.is) refl))
     ])
     c.loop-i.invariant
