@@ -1,18 +1,17 @@
 -- Whether a list is the reduced basis: what the two answers of the search for the basis say of it.
-use Rattle.std.proofs.Common.{◌≡◌, ◌⊎◌, inl, inr, ℕ, zero, suc, ◌+◌, ◌<◌, ◌≤◌, ◌^◌, ◌-◌, max, List, [], ◌∷◌, length, get_or, map, sym, ap, ap₂, ◌∙◌, refl, subst, arith, Bool, true, false, IsTrue}
-use Rattle.std.specs.Prelude.{All, ◌↔◌}
+use Rattle.std.proofs.Common.{◌≡◌, inl, inr, ℕ, zero, suc, ◌+◌, ◌<◌, ◌≤◌, List, [], ◌∷◌, length, get_or, sym, ap, ap₂, ◌∙◌, refl, subst, arith, Bool, false, IsTrue}
+use Rattle.std.specs.Prelude.{◌↔◌}
 use native.Mathlib.Decide.{dec_le}
 use Rattle.alg_core.specs.Lists.{In}
-use Rattle.alg_core.specs.Keys.{Key, key}
+use Rattle.alg_core.specs.Keys.{key}
 use Rattle.alg_core.specs.declared.term.Term.{Term}
 use Rattle.alg_core.specs.Spaces.{SpaceOver, entries}
-use Rattle.alg_core.specs.SpaceOrder.{key_order}
 use Rattle.alg_core.specs.SpaceGrading.{degree}
 use Rattle.alg_core.specs.Vectors.{Vect, zero_vector}
 use Rattle.alg_core.proofs.Members.{from_map}
 use Rattle.poly_module.specs.Parts.{Supp, supp_zero, supp_weaken}
 use Rattle.poly_module.specs.Degrees.{IsDegree}
-use Rattle.poly_module.specs.Modules.{LeadBy, InModule, listed}
+use Rattle.poly_module.specs.Modules.{InModule, listed}
 use Rattle.poly_module.specs.ReducedLists.{FitsOrder, IsReducedBasis}
 use Rattle.poly_module.specs.SpaceVectors.{IsPositive, IsVector, AreVectors, vector_of, vectors_of, IsUpTo}
 use Rattle.poly_module.proofs.ExponentBounds.{vec_supp}
@@ -20,7 +19,7 @@ use Rattle.poly_module.proofs.EntryCoefficients.{term_at_index}
 use Rattle.poly_module.proofs.Reduced.{reduced_basis_unique}
 use Rattle.module_groebner.specs.declared.bound.BasisBound.{BasisBound}
 use Rattle.module_groebner.specs.declared.bound.Which.{Which}
-use Rattle.module_groebner.specs.HomogeneousLists.{degree_limit, AreUpTo, AreHomogeneous, AreHomogeneousUpTo}
+use Rattle.module_groebner.specs.HomogeneousLists.{degree_limit, AreUpTo, AreHomogeneousUpTo}
 use Rattle.module_groebner.specs.BasisBounds.{IsBasisBound}
 use Rattle.module_groebner.proofs.CriterionSteps.{are_homogeneous}
 use Rattle.module_groebner.proofs.DivisionSteps.{listed_at}

@@ -1,11 +1,10 @@
 -- The search for a bad pair: what is said of one pair, and of all pairs that were passed.
-use Rattle.std.proofs.Common.{◌≡◌, ℕ, ◌+◌, ◌-◌, ◌<◌, ◌≤◌, ◌==◌, List, [], length, get_or, sym, ap, ap₂, ◌∙◌, refl, subst, arith, Bool, true, false, inl, inr, IsTrue}
+use Rattle.std.proofs.Common.{◌≡◌, ℕ, ◌+◌, ◌-◌, ◌<◌, ◌≤◌, List, length, get_or, sym, ap, ◌∙◌, refl, subst, arith, Bool, true, false, inl, IsTrue}
 use Rattle.std.specs.Prelude.{All, Option, Some, None, IsNone, ◌↔◌}
 use Rattle.std.specs.Option.{is_some}
 use Rattle.std.proofs.lemmas.List.Elements.{All-weaker}
-use Rattle.std.proofs.lemmas.Bool.Decides.{nat_tests}
-use native.Mathlib.Decide.{dec_le, ℕ_discrete}
-use Rattle.alg_core.specs.Keys.{Key, TermPlace, key, times_key}
+use native.Mathlib.Decide.{dec_le}
+use Rattle.alg_core.specs.Keys.{TermPlace, key, times_key}
 use Rattle.alg_core.specs.CommonMultiples.{common_multiple}
 use Rattle.alg_core.specs.declared.term.Term.{Term}
 use Rattle.alg_core.specs.Spaces.{SpaceOver}
@@ -14,11 +13,11 @@ use Rattle.alg_core.specs.SpaceGrading.{AllPositive, degree, degree_times_key}
 use Rattle.alg_core.specs.Vectors.{Vect, zero_vector}
 use Rattle.poly_module.specs.Degrees.{IsHomogeneous}
 use Rattle.poly_module.specs.Modules.{LeadBy, IsGroebnerBasis, listed}
-use Rattle.poly_module.specs.SpaceVectors.{vector_of, vectors_of, AreVectors, IsVector, IsUpTo}
-use Rattle.module_groebner.specs.HomogeneousLists.{degree_limit, cap_limit, AreHomogeneous, AreHomogeneousUpTo, AreNonzero, IsHomogeneousUpTo}
+use Rattle.poly_module.specs.SpaceVectors.{vector_of, vectors_of, IsUpTo}
+use Rattle.module_groebner.specs.HomogeneousLists.{degree_limit, cap_limit, AreHomogeneous, AreHomogeneousUpTo, IsHomogeneousUpTo}
 use Rattle.module_groebner.specs.Remainders.{IsRemainder}
 use Rattle.module_groebner.specs.SVectors.{IsSVector, IsTreated, IsBadPair}
-use Rattle.module_groebner.proofs.BasisLaws.{bad_pair, treated_basis}
+use Rattle.module_groebner.proofs.BasisLaws.{treated_basis}
 use Rattle.module_groebner.proofs.DivisionSteps.{listed_at, member_has}
 use Rattle.module_groebner.proofs.Families.{length_map, listed_past}
 use Rattle.module_groebner.proofs.ListLaws.{family}

@@ -1,17 +1,16 @@
 -- The loop of division: what is done and what is left are lists of terms.
-use Rattle.std.proofs.Common.{◌≡◌, ◌⊎◌, inl, inr, ◌≤◌, ◌<◌, ℕ, zero, suc, ◌+◌, ◌-◌, get_or, take, drop, length-drop, Bool, true, false, List, [], ◌∷◌, ◌++◌, length, sym, ap, ap₂, ◌∙◌, refl, subst, append_assoc, arith}
+use Rattle.std.proofs.Common.{◌≡◌, ◌≤◌, ◌<◌, ℕ, zero, suc, ◌+◌, ◌-◌, get_or, take, drop, length-drop, Bool, true, false, List, [], ◌∷◌, ◌++◌, length, sym, ap, ◌∙◌, refl, subst, append_assoc, arith}
 use Rattle.std.specs.Prelude.{All, filter}
 use Rattle.std.specs.Ordering.{is_lt}
 use Rattle.std.proofs.lemmas.List.{take_all}
 use native.Mathlib.Decide.{ℕ_discrete, dec_le}
 use Rattle.std.specs.declared.cmp.Ordering.{Ordering}
-use Rattle.std.specs.declared.cmp.Ordering.TheVariants.{Less, Greater}
-use Rattle.alg_core.specs.Fields.{FieldOn, Scalar, scalars, is_field, scalar}
-use Rattle.alg_core.specs.Keys.{TermPlace, Key, key, key_same, times_key, KeyDivides}
+use Rattle.std.specs.declared.cmp.Ordering.TheVariants.{Less}
+use Rattle.alg_core.specs.Fields.{FieldOn, scalars, is_field, scalar}
+use Rattle.alg_core.specs.Keys.{Key, key, key_same, times_key, KeyDivides}
 use Rattle.alg_core.specs.KeyLists.{keys_up_to}
 use Rattle.alg_core.specs.KeyOrders.{OrderOn, less_transitive, less_irreflexive}
 use Rattle.alg_core.specs.Leads.{lead_unique}
-use Rattle.alg_core.specs.Lists.{In}
 use Rattle.alg_core.specs.declared.term.Term.{Term}
 use Rattle.alg_core.specs.Spaces.{SpaceOver, entry, entries, IsTerm, IsAbove, Fits}
 use Rattle.alg_core.specs.SpaceOrder.{key_order, key_compare_places}

@@ -1,6 +1,5 @@
 -- What is said of a module by its generators depends on the module alone; what the loop over a completion keeps.
 use Rattle.std.proofs.Common.{◌≡◌, ◌∙◌, ℕ, List, subst}
-use Rattle.std.specs.Prelude.{◌↔◌}
 use Rattle.alg_core.specs.Fields.{FieldOn}
 use Rattle.alg_core.specs.Keys.{Key}
 use Rattle.alg_core.specs.Vectors.{Vect}

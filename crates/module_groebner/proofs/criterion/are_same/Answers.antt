@@ -1,4 +1,4 @@
-use Rattle.std.proofs.Common.{◌≡◌, true, refl, arith}
+use Rattle.std.proofs.Common.{true, refl, arith}
 use Rattle.alg_core.specs.Spaces.{over}
 use Rattle.module_groebner.proofs.BasisSteps.{never, same_all, same_at}
 use Rattle.module_groebner.proofs.CriterionSteps.{true_of}

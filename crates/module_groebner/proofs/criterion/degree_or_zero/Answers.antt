@@ -1,9 +1,8 @@
-use Rattle.std.proofs.Common.{◌≡◌, ◌≤◌, ◌^◌, ◌-◌, sym, refl, subst, arith}
-use Rattle.std.specs.Prelude.{IsNone}
+use Rattle.std.proofs.Common.{◌^◌, ◌-◌, refl, arith}
 use Rattle.alg_core.specs.Spaces.{over}
 use Rattle.poly_module.specs.SpaceVectors.{vector_of}
 use Rattle.module_groebner.specs.HomogeneousLists.{cap_limit}
-use Rattle.module_groebner.proofs.BasisSteps.{up_to_more, degree_low, degree_up_to, zero_up_to}
+use Rattle.module_groebner.proofs.BasisSteps.{up_to_more, degree_low, zero_up_to}
 use Rattle.module_groebner.proofs.criterion.degree_or_zero.Goals as goal
 
 pub degree-requires-clause-small : goal.degree-requires-clause-small

@@ -1,4 +1,4 @@
-use Rattle.std.proofs.Common.{◌≡◌, ℕ, ◌+◌, length, Bool, true, IsTrue, arith}
+use Rattle.std.proofs.Common.{ℕ, ◌+◌}
 use Rattle.alg_core.specs.Spaces.{over}
 use Rattle.poly_module.specs.SpaceVectors.{vectors_of}
 use Rattle.module_groebner.proofs.BasisLaws.{bad_pair}

@@ -1,8 +1,7 @@
-use Rattle.std.proofs.Common.{◌≡◌, ◌<◌, ◌∙◌, length, sym, subst, refl, arith, Bool, true, false, IsTrue}
+use Rattle.std.proofs.Common.{◌≡◌, ◌<◌, ◌∙◌, length, sym, arith}
 use Rattle.alg_core.specs.Keys.{key}
 use Rattle.alg_core.specs.Spaces.{over, place}
 use Rattle.alg_core.specs.Vectors.{zero_vector}
-use Rattle.poly_module.specs.Modules.{listed}
 use Rattle.poly_module.specs.SpaceVectors.{vector_of, vectors_of}
 use Rattle.module_groebner.specs.HomogeneousLists.{cap_limit, IsHomogeneousUpTo}
 use Rattle.module_groebner.proofs.CriterionSteps.{up_to, are_homogeneous, s_up_to, apart_treated, zero_treated, other_bad, position_of, not_zero_or}

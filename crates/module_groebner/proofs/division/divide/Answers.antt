@@ -1,7 +1,7 @@
-use Rattle.std.proofs.Common.{◌≡◌, ℕ, ap, ◌+◌, ◌-◌, ◌∷◌, ◌<◌, ◌≤◌, length, take, drop, refl, sym, subst, ◌∙◌, arith}
+use Rattle.std.proofs.Common.{◌≡◌, ℕ, ap, ◌+◌, ◌∷◌, ◌<◌, ◌≤◌, length, drop, refl, sym, subst, arith}
 use Rattle.std.proofs.lemmas.List.{drop_all}
 use Rattle.alg_core.specs.Fields.{scalar}
-use Rattle.alg_core.specs.Keys.{Key, key}
+use Rattle.alg_core.specs.Keys.{key}
 use Rattle.alg_core.specs.Spaces.{over, place, entries}
 use Rattle.alg_core.specs.SpaceOrder.{key_order}
 use Rattle.alg_core.specs.Vectors.{coef_at}
@@ -11,7 +11,7 @@ use Rattle.poly_module.specs.SpaceVectors.{vector_of, vectors_of, IsVector}
 use Rattle.poly_module.proofs.MergeSteps.{drop_at}
 use Rattle.module_groebner.specs.Reductions.{IsReduction}
 use Rattle.module_groebner.specs.Remainders.{IsRemainder}
-use Rattle.module_groebner.proofs.DivisionSteps.{State, starts, at_top, sliced, left_fits, top_term, top_lead, top_value, moves, reduces, ends, size, smaller_moved, smaller_reduced, member_has, member_divides, listed_at}
+use Rattle.module_groebner.proofs.DivisionSteps.{starts, at_top, sliced, left_fits, top_term, top_lead, top_value, moves, reduces, ends, size, smaller_moved, smaller_reduced, member_has, member_divides, listed_at}
 use Rattle.module_groebner.proofs.division.divide.Goals as goal
 
 pub steps-init : goal.steps-init

@@ -1,10 +1,8 @@
-use Rattle.std.proofs.Common.{◌≡◌, ◌<◌, length, sym, subst, refl, arith}
+use Rattle.std.proofs.Common.{sym, subst, refl, arith}
 use Rattle.std.specs.Prelude.{IsNone}
-use Rattle.alg_core.specs.Keys.{Key, key, KeyDivides}
+use Rattle.alg_core.specs.Keys.{key, KeyDivides}
 use Rattle.alg_core.specs.Spaces.{over, place}
-use Rattle.alg_core.specs.SpaceOrder.{key_order}
-use Rattle.poly_module.specs.Modules.{LeadBy, listed}
-use Rattle.poly_module.specs.SpaceVectors.{vector_of, vectors_of}
+use Rattle.poly_module.specs.SpaceVectors.{vector_of}
 use Rattle.module_groebner.proofs.DivisionSteps.{found, passed, nothing_found}
 use Rattle.module_groebner.proofs.ReductionSteps.{same_lead, lead_not_zero, not_both}
 use Rattle.module_groebner.proofs.division.divisor.Goals as goal
