@@ -1,8 +1,8 @@
 -- Remainders by a basis, Buchberger's criterion both ways, and elements above a cap against members of the reduced basis.
-use Rattle.std.proofs.Common.{◌≡◌, ◌⊎◌, inl, inr, ℕ, suc, ◌+◌, ◌<◌, ◌≤◌, List, [], ◌∷◌, sym, ap, ap₂, ◌∙◌, refl, subst, arith}
+use Rattle.std.proofs.Common.{◌≡◌, ◌⊎◌, inl, inr, ℕ, suc, ◌<◌, ◌≤◌, List, sym, ap, ◌∙◌, refl, subst, arith}
 use Rattle.std.specs.Prelude.{◌↔◌}
 use native.Mathlib.Decide.{dec_le}
-use Rattle.alg_core.specs.Fields.{FieldOn, Scalar, scalars, is_field}
+use Rattle.alg_core.specs.Fields.{FieldOn, scalars, is_field}
 use Rattle.alg_core.specs.Keys.{Key, key_same, times_key, KeyDivides}
 use Rattle.alg_core.specs.CommonMultiples.{common_multiple}
 use Rattle.alg_core.specs.KeyOrders.{OrderOn}
@@ -10,24 +10,22 @@ use Rattle.alg_core.specs.Leads.{has_lead, HasLead, lead_unique}
 use Rattle.alg_core.specs.Lists.{In}
 use Rattle.alg_core.specs.Spaces.{SpaceOver}
 use Rattle.alg_core.specs.SpaceOrder.{key_order}
-use Rattle.alg_core.specs.SpaceGrading.{AllPositive, weight, degree, degree_times_key}
-use Rattle.alg_core.specs.Vectors.{Vect, vectors, coef_at, plus, zero_vector}
+use Rattle.alg_core.specs.SpaceGrading.{AllPositive, degree, degree_times_key}
+use Rattle.alg_core.specs.Vectors.{Vect, plus, zero_vector}
 use Rattle.alg_core.proofs.VectorLaws.{plus_assoc, plus_comm, plus_cancel, zero_plus}
 use Rattle.poly_module.specs.Signs.{minus}
 use Rattle.poly_module.specs.Parts.{Supp}
 use Rattle.poly_module.specs.Degrees.{IsHomogeneous, part, graded_part_graded}
 use Rattle.poly_module.specs.Modules.{LeadBy, InModule, IsGroebnerBasis, listed}
-use Rattle.poly_module.specs.ReducedLists.{IsReduced, IsReducedBasisOf}
-use Rattle.poly_module.specs.SpaceVectors.{IsUpTo}
+use Rattle.poly_module.specs.ReducedLists.{IsReducedBasisOf}
 use Rattle.poly_module.specs.Caps.{IsAboveCap}
 use Rattle.poly_module.proofs.ModuleElements.{module_zero, module_member, module_part}
 use Rattle.poly_module.proofs.SpaceVectorLaws.{minus_plus, supp_minus}
 use Rattle.poly_module.proofs.Reduced.{divides_trans}
-use Rattle.module_groebner.specs.Remainders.{IsRemainder, KeepsDegrees}
+use Rattle.module_groebner.specs.Remainders.{IsRemainder}
 use Rattle.module_groebner.specs.SVectors.{IsSVector, IsTreated, IsBadPair}
 use Rattle.module_groebner.proofs.Remainders.{Irreducible, remainder_exists, remainder_difference, remainder_inside, divided_inside, module_difference}
 use Rattle.module_groebner.proofs.SVectors.{s_exists, s_homogeneous, s_inside, treated_by}
-use Rattle.module_groebner.proofs.DegreeCriterion.{Found}
 use Rattle.module_groebner.proofs.PairCriterion.{found_in_degree}
 use Rattle.module_groebner.proofs.CompletionEnds.{part_lead, lead_there}
 

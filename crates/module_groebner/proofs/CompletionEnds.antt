@@ -1,49 +1,44 @@
 -- How a completion ends: below the least degree that is still to treat, the leads of all elements are found; so a remainder of a
 -- degree over the cap is an element above the cap of the least degree, and where nothing is left the members are a basis.
-use Rattle.std.proofs.Common.{◌≡◌, ◌⊎◌, inl, inr, ℕ, zero, suc, ◌+◌, ◌<◌, ◌≤◌, List, [], ◌∷◌, ◌++◌, map, length, get_or, sym, ap, ap₂, ◌∙◌, refl, subst, arith, append-nil}
-use Rattle.std.specs.Prelude.{All, Contains}
+use Rattle.std.proofs.Common.{◌≡◌, ◌⊎◌, inl, inr, ℕ, zero, suc, ◌<◌, ◌≤◌, List, [], ◌∷◌, ◌++◌, length, get_or, sym, ap, ap₂, ◌∙◌, refl, subst, arith}
+use Rattle.std.specs.Prelude.{Contains}
 use Rattle.std.specs.declared.cmp.Ordering.TheVariants.{Less}
 use native.Mathlib.Decide.{ℕ_discrete, dec_le}
 use Rattle.alg_core.specs.Fields.{FieldOn, scalars, is_field}
 use Rattle.alg_core.specs.Monomials.{Mon}
-use Rattle.alg_core.specs.ExponentLists.{lcm}
-use Rattle.alg_core.specs.Keys.{Key, TermPlace, key, key_same, times_key, KeyDivides}
+use Rattle.alg_core.specs.Keys.{Key, TermPlace, key, key_same, times_key}
 use Rattle.alg_core.specs.CommonMultiples.{common_multiple}
 use Rattle.alg_core.specs.KeyLists.{place_degree}
 use Rattle.alg_core.specs.KeyOrders.{OrderOn}
 use Rattle.alg_core.specs.Leads.{has_lead, HasLead, lead_unique}
 use Rattle.alg_core.specs.Lists.{In, in_left, in_right, map_in}
-use Rattle.alg_core.specs.Spaces.{SpaceOver, Fits, IsPlace, entries}
+use Rattle.alg_core.specs.Spaces.{SpaceOver, Fits, IsPlace}
 use Rattle.alg_core.specs.SpaceOrder.{key_order}
-use Rattle.alg_core.specs.SpaceGrading.{AllPositive, weight, degree, degree_times_key}
-use Rattle.alg_core.specs.Vectors.{Entry, Vect, vec, vectors, coef_at, plus, zero_vector, shift}
-use Rattle.alg_core.proofs.Members.{in_contains, contains_in, from_map, in_cases}
+use Rattle.alg_core.specs.SpaceGrading.{AllPositive, degree, degree_times_key}
+use Rattle.alg_core.specs.Vectors.{Entry, Vect, vec, vectors, coef_at, zero_vector, shift}
+use Rattle.alg_core.proofs.Members.{contains_in, from_map, in_cases}
 use Rattle.alg_core.proofs.FittingLists.{lead_first}
 use Rattle.alg_core.proofs.KeyLists.{degree_place}
 use Rattle.alg_core.proofs.KeyMultiples.{place_lcm}
 use Rattle.alg_core.proofs.VectorLaws.{vec_nothing, coef_at_zero, shift_zero_vector}
 use Rattle.alg_core.specs.ModuleLaws as modules
-use Rattle.poly_module.specs.Parts.{Supp, supp_zero}
-use Rattle.poly_module.specs.Degrees.{IsHomogeneous, IsDegree, part, graded_part_inside, graded_part_outside, graded_part_graded}
-use Rattle.poly_module.specs.Modules.{LeadBy, InModule, IsGroebnerBasis, listed, summands}
-use Rattle.poly_module.specs.SpaceVectors.{IsUpTo, vector_of}
+use Rattle.poly_module.specs.Parts.{supp_zero}
+use Rattle.poly_module.specs.Degrees.{IsHomogeneous, part, graded_part_inside, graded_part_outside, graded_part_graded}
+use Rattle.poly_module.specs.Modules.{LeadBy, InModule, listed, summands}
 use Rattle.poly_module.specs.Caps.{IsAboveCap}
 use Rattle.poly_module.proofs.Reduced.{divides_trans}
 use Rattle.poly_module.proofs.ModuleElements.{module_member, module_part, module_summands}
-use Rattle.module_groebner.specs.declared.bound.BasisBound.{BasisBound}
-use Rattle.module_groebner.specs.declared.bound.Which.TheVariants.{Ideal}
 use Rattle.module_groebner.specs.HomogeneousLists.{degree_limit, IsHomogeneousUpTo}
-use Rattle.module_groebner.specs.Remainders.{EachLead, IsSum, IsRemainder, KeepsDegrees}
-use Rattle.module_groebner.specs.SVectors.{IsSVector, IsTreated}
-use Rattle.module_groebner.specs.BasisBounds.{NothingAbove, IsBasisBound}
-use Rattle.module_groebner.specs.Progress.{Progress, lead_place, generator_degree, pair_degree, IsLeast, IsDone}
-use Rattle.module_groebner.specs.Completions.{vects, SameModule, member_place, IsPair, IsCurrentGenerator, IsCurrentPair, IsCurrentVector, IsOver, members, generated, StandsOver}
+use Rattle.module_groebner.specs.Remainders.{EachLead, IsSum, IsRemainder}
+use Rattle.module_groebner.specs.SVectors.{IsTreated}
+use Rattle.module_groebner.specs.Progress.{Progress, generator_degree, pair_degree, IsLeast}
+use Rattle.module_groebner.specs.Completions.{vects, member_place, IsPair, IsCurrentVector, members, generated, StandsOver}
 use Rattle.module_groebner.proofs.Sums.{Summand, sum_zero, sum_plus, sum_one, sum_in_module, sum_of_degree}
 use Rattle.module_groebner.proofs.Remainders.{remainder_difference, module_difference}
-use Rattle.module_groebner.proofs.SVectors.{s_homogeneous, s_inside, s_left, s_right}
+use Rattle.module_groebner.proofs.SVectors.{s_homogeneous, s_inside}
 use Rattle.module_groebner.proofs.DegreeCriterion.{Found}
 use Rattle.module_groebner.proofs.PairCriterion.{Treats, found_in_degree}
-use Rattle.module_groebner.proofs.Families.{all_in, in_all, in_get, vects_at, entries_lead, length_map, listed_front, listed_past, member_inside, inside_by_members, homogeneous_each, homogeneous_family}
+use Rattle.module_groebner.proofs.Families.{all_in, in_get, vects_at, entries_lead, length_map, listed_front, listed_past, member_inside, inside_by_members, homogeneous_each, homogeneous_family}
 
 module _ {E : Type 0} (S : SpaceOver E) where
   abbrev k : FieldOn E
@@ -244,8 +239,13 @@ module _ {E : Type 0} (S : SpaceOver E) where
 
     -- the current vector has the least degree that is still to treat
     pub current_vector : (v : Vect S.field) → IsCurrentVector S c v → (m : ℕ) × IsLeast c m × IsHomogeneous S m v × InModule S.field (generated S c) v
-    current_vector v (inl g) = (generator_degree c g.0, g.1.least, subst (IsHomogeneous S (generator_degree c g.0)) g.2 (homogeneous g.0 i), subst (InModule k (generated S c)) g.2
-        (member_inside k (vs ++ ws) (vec k g.0) (in_right (vec k g.0) vs ws (map_in (vec k) g.0 c.generators i))))
+    current_vector v (inl g) = (
+      generator_degree c g.0,
+      g.1.least,
+      subst (IsHomogeneous S (generator_degree c g.0)) g.2 (homogeneous g.0 i),
+      subst (InModule k (generated S c)) g.2
+          (member_inside k (vs ++ ws) (vec k g.0) (in_right (vec k g.0) vs ws (map_in (vec k) g.0 c.generators i))),
+    )
       where
         i : In g.0 c.generators
         i = contains_in g.0 c.generators g.1.there
@@ -259,9 +259,13 @@ module _ {E : Type 0} (S : SpaceOver E) where
           where
             lead_degree : (e : Entry E) (es : List (Entry E)) → Fits S (e ∷ es) → (n : ℕ) → IsHomogeneous S n (vec k (e ∷ es)) → degree S (key e.0) ≡ n
             lead_degree e es f n h = h (key e.0) (lead_there (vec k (e ∷ es)) (key e.0) (lead_first S e es f))
-    current_vector v (inr p) = (pair_degree c p.0, p.1.least, subst (λ n. IsHomogeneous S n v) (pair_degree_is p.0 pair p.2.left p.2.right p.2.is_left.lead p.2.is_right.lead)
-        (s_homogeneous S (members S c p.0.0) (members S c p.0.1) v p.2 (members_upto p.0.0).0 (members_upto p.0.1).0 (members_upto p.0.0).2 (members_upto p.0.1).2),
-        s_inside S (members S c p.0.0) (members S c p.0.1) v p.2 (generated S c) (member_generated p.0.0) (member_generated p.0.1))
+    current_vector v (inr p) = (
+      pair_degree c p.0,
+      p.1.least,
+      subst (λ n. IsHomogeneous S n v) (pair_degree_is p.0 pair p.2.left p.2.right p.2.is_left.lead p.2.is_right.lead)
+          (s_homogeneous S (members S c p.0.0) (members S c p.0.1) v p.2 (members_upto p.0.0).0 (members_upto p.0.1).0 (members_upto p.0.0).2 (members_upto p.0.1).2),
+      s_inside S (members S c p.0.0) (members S c p.0.1) v p.2 (generated S c) (member_generated p.0.0) (member_generated p.0.1),
+    )
       where
         pair : IsPair c p.0
         pair = all_in (IsPair c) c.pairs stands.pairs p.0 (contains_in p.0 c.pairs p.1.there)

@@ -1,7 +1,6 @@
 -- What a completion answers: an element above the cap, or, where nothing is left to treat, that its members are a basis.
-use Rattle.std.proofs.Common.{◌≡◌, ◌⊎◌, inl, inr, ℕ, zero, suc, ◌+◌, ◌<◌, ◌≤◌, List, [], ◌∷◌, ◌++◌, map, sym, ap, ◌∙◌, refl, subst, arith, append-nil}
-use Rattle.std.specs.Prelude.{All, Contains}
-use native.Mathlib.Decide.{dec_le}
+use Rattle.std.proofs.Common.{◌≡◌, inl, inr, ℕ, suc, ◌<◌, ◌≤◌, [], ◌++◌, sym, ap, ◌∙◌, subst, arith, append-nil}
+use Rattle.std.specs.Prelude.{All}
 use Rattle.alg_core.specs.Fields.{FieldOn, scalars, is_field}
 use Rattle.alg_core.specs.Keys.{Key, key_same, KeyDivides}
 use Rattle.alg_core.specs.KeyOrders.{OrderOn}
@@ -9,11 +8,11 @@ use Rattle.alg_core.specs.Leads.{has_lead, HasLead}
 use Rattle.alg_core.specs.Spaces.{SpaceOver}
 use Rattle.alg_core.specs.SpaceOrder.{key_order}
 use Rattle.alg_core.specs.SpaceGrading.{AllPositive, degree}
-use Rattle.alg_core.specs.Vectors.{Entry, Vect, vec, coef_at, zero_vector}
+use Rattle.alg_core.specs.Vectors.{Vect, coef_at, zero_vector}
 use Rattle.alg_core.proofs.VectorLaws.{coef_at_zero}
 use Rattle.poly_module.specs.Parts.{supp_zero}
 use Rattle.poly_module.specs.Degrees.{IsHomogeneous, IsDegree}
-use Rattle.poly_module.specs.Modules.{LeadBy, InModule, IsGroebnerBasis, listed}
+use Rattle.poly_module.specs.Modules.{LeadBy, InModule, listed}
 use Rattle.poly_module.specs.SpaceVectors.{IsVector, vector_of}
 use Rattle.module_groebner.specs.declared.bound.BasisBound.{BasisBound}
 use Rattle.module_groebner.specs.declared.bound.Which.TheVariants.{Ideal}
@@ -22,8 +21,8 @@ use Rattle.module_groebner.specs.Remainders.{IsRemainder, KeepsDegrees}
 use Rattle.module_groebner.specs.BasisBounds.{NothingAbove}
 use Rattle.module_groebner.specs.Progress.{Progress, generator_degree, pair_degree, IsLeast, IsDone}
 use Rattle.module_groebner.specs.Completions.{vects, SameModule, IsCurrentVector, IsOver, members, generated, StandsOver}
-use Rattle.module_groebner.proofs.Families.{in_all, inside_by_members, member_inside}
-use Rattle.module_groebner.proofs.CompletionEnds.{low_degrees_done, least_above, above_cap, current_vector, member_generated}
+use Rattle.module_groebner.proofs.Families.{in_all}
+use Rattle.module_groebner.proofs.CompletionEnds.{low_degrees_done, least_above, above_cap, current_vector}
 
 module _ {E : Type 0} (S : SpaceOver E) (positive : AllPositive S.weights) (c : Progress E) (stands : StandsOver S c) where
   abbrev k : FieldOn E

@@ -1,14 +1,14 @@
 -- One step of a completion: a remainder of the current vector is appended, if it is not 0, with the pairs that it makes.
-use Rattle.std.proofs.Common.{◌≡◌, ◌⊎◌, inl, inr, ℕ, zero, suc, ◌+◌, ◌<◌, ◌≤◌, List, [], ◌∷◌, ◌++◌, map, length, get_or, sym, ap, ap₂, ◌∙◌, refl, subst, arith, length-append}
+use Rattle.std.proofs.Common.{◌≡◌, ◌⊎◌, inl, inr, ℕ, suc, ◌<◌, ◌≤◌, List, [], ◌∷◌, ◌++◌, length, get_or, sym, ap, ◌∙◌, subst, arith, length-append}
 use Rattle.std.specs.Prelude.{All, Contains}
 use Rattle.std.specs.List.Sorted.{IsPermutation}
 use Rattle.std.proofs.lemmas.List.Sorted.{IsPermutation-sym}
 use native.Mathlib.Decide.{dec_le}
 use Rattle.alg_core.specs.Lists.{In, in_left, in_right, map_in}
 use Rattle.alg_core.specs.Spaces.{SpaceOver, Fits}
-use Rattle.alg_core.specs.Vectors.{Entry, Vect, vec, plus, zero_vector}
+use Rattle.alg_core.specs.Vectors.{Entry, Vect, vec, zero_vector}
 use Rattle.alg_core.proofs.Members.{in_cases, from_map, in_contains, contains_in}
-use Rattle.alg_core.proofs.VectorLaws.{vec_nothing, zero_plus}
+use Rattle.alg_core.proofs.VectorLaws.{vec_nothing}
 use Rattle.poly_module.specs.Modules.{InModule, listed}
 use Rattle.poly_module.proofs.ModuleElements.{module_zero, module_plus, module_member}
 use Rattle.alg_core.proofs.FittingLists.{vec_not_zero}
@@ -16,7 +16,7 @@ use Rattle.module_groebner.specs.HomogeneousLists.{degree_limit, cap_limit, IsHo
 use Rattle.module_groebner.specs.Remainders.{IsRemainder}
 use Rattle.module_groebner.specs.SVectors.{IsSVector, IsTreated}
 use Rattle.module_groebner.specs.Progress.{Progress, lead_place}
-use Rattle.module_groebner.specs.Completions.{vects, SameModule, member_place, IsPair, IsCurrentGenerator, IsCurrentPair, members, generated, StandsOver, Extends, TreatsGenerator, TreatsPair}
+use Rattle.module_groebner.specs.Completions.{vects, member_place, IsPair, IsCurrentGenerator, IsCurrentPair, members, generated, StandsOver, Extends, TreatsGenerator, TreatsPair}
 use Rattle.module_groebner.proofs.Sums.{Grows}
 use Rattle.module_groebner.proofs.Remainders.{remainder_difference, module_difference}
 use Rattle.module_groebner.proofs.SVectors.{s_inside, treated_grows, treated_by}

@@ -1,36 +1,26 @@
 -- Buchberger's criterion, by degree: where the pairs up to a degree are treated, the leads of the elements of that degree are
 -- multiples of leads of members.
-use Rattle.std.proofs.Common.{◌≡◌, ◌⊎◌, inl, inr, ℕ, zero, suc, ◌+◌, ◌<◌, ◌≤◌, List, [], ◌∷◌, sym, ap, ap₂, ◌∙◌, refl, subst, arith}
+use Rattle.std.proofs.Common.{◌≡◌, ◌⊎◌, inl, inr, ℕ, zero, suc, ◌<◌, List, [], ◌∷◌, sym, ap, ap₂, ◌∙◌, refl, subst, arith}
 use Rattle.std.specs.declared.cmp.Ordering.TheVariants.{Less}
-use native.Mathlib.Decide.{ℕ_discrete, dec_le}
-use Rattle.alg_core.specs.RingLaws as rings
 use Rattle.alg_core.specs.ModuleLaws as modules
-use Rattle.alg_core.specs.Fields.{FieldOn, Scalar, scalars, is_field, scalar_same, mul_not_zero}
-use Rattle.alg_core.specs.Monomials.{Mon, monomials, mon_cancel}
-use Rattle.alg_core.specs.Keys.{Key, key_same, times_key, times_key_mul, KeyDivides}
-use Rattle.alg_core.specs.CommonMultiples.{common_multiple}
+use Rattle.alg_core.specs.Fields.{FieldOn, Scalar, scalars, is_field, scalar_same}
+use Rattle.alg_core.specs.Monomials.{Mon}
+use Rattle.alg_core.specs.Keys.{Key, key_same, times_key, KeyDivides}
 use Rattle.alg_core.specs.KeyOrders.{OrderOn, Trichotomy, trichotomy, less_transitive, less_irreflexive, less_asymmetric}
 use Rattle.alg_core.specs.Leads.{has_lead, HasLead, lead_unique}
-use Rattle.alg_core.specs.Lists.{In}
 use Rattle.alg_core.specs.Spaces.{SpaceOver}
 use Rattle.alg_core.specs.SpaceOrder.{key_order}
-use Rattle.alg_core.specs.SpaceGrading.{AllPositive, weight, degree, degree_times_key, rank, rank_less}
+use Rattle.alg_core.specs.SpaceGrading.{AllPositive, degree, rank, rank_less}
 use Rattle.alg_core.specs.Vectors.{Vect, vectors, coef_at, plus, zero_vector, shift}
-use Rattle.alg_core.proofs.KeyMultiples.{key_lcm_least}
-use Rattle.alg_core.proofs.VectorLaws.{plus_assoc, plus_comm, plus_left_comm, plus_swap, plus_zero, zero_plus, coef_at_zero, coef_at_plus, shift_linear, shift_plus, shift_zero_vector}
-use Rattle.poly_module.specs.Signs.{minus}
-use Rattle.poly_module.specs.Parts.{Supp, supp_act, supp_outside}
-use Rattle.poly_module.specs.Degrees.{IsHomogeneous, part, graded_part_inside, graded_part_outside, graded_part_graded}
-use Rattle.poly_module.specs.Forms.{homogeneous_shift}
+use Rattle.alg_core.proofs.VectorLaws.{plus_left_comm, plus_swap, zero_plus, coef_at_zero, shift_zero_vector}
+use Rattle.poly_module.specs.Parts.{Supp}
+use Rattle.poly_module.specs.Degrees.{IsHomogeneous}
 use Rattle.poly_module.specs.Modules.{LeadBy, InModule, summands}
-use Rattle.poly_module.proofs.EchelonLists.{coef_at_act}
-use Rattle.poly_module.proofs.LeadLaws.{coef_shift, lead_act, lead_shift, lead_plus}
-use Rattle.poly_module.proofs.ModuleElements.{module_summands, module_part}
-use Rattle.poly_module.proofs.SpaceVectorLaws.{minus_plus, minus_unique, supp_minus}
+use Rattle.poly_module.proofs.LeadLaws.{lead_act, lead_shift, lead_plus}
+use Rattle.poly_module.proofs.ModuleElements.{module_summands}
 use Rattle.module_groebner.specs.Remainders.{EachLead, IsSum, IsSumBelow, IsSumUpTo}
-use Rattle.module_groebner.specs.SVectors.{IsMonicMultiple, IsSVector, IsTreated}
-use Rattle.module_groebner.proofs.Sums.{Summand, shift_mul, sum_zero, sum_plus, sum_act, sum_weaken, sum_one, sum_keys, below_shift, sum_of_degree}
-use Rattle.module_groebner.proofs.Remainders.{AtMost, less_dec, at_most_down}
+use Rattle.module_groebner.proofs.Sums.{Summand, sum_zero, sum_plus, sum_act, sum_weaken, sum_one, sum_keys, sum_of_degree}
+use Rattle.module_groebner.proofs.Remainders.{AtMost, less_dec}
 
 module _ {E : Type 0} (S : SpaceOver E) (g : ℕ → Vect S.field) where
   abbrev k : FieldOn E

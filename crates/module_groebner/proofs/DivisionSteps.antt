@@ -1,17 +1,16 @@
 -- The loop of division: what is done and what is left are lists of terms.
-use Rattle.std.proofs.Common.{◌≡◌, ◌⊎◌, inl, inr, ◌≤◌, ◌<◌, ℕ, zero, suc, ◌+◌, ◌-◌, get_or, take, drop, length-drop, Bool, true, false, List, [], ◌∷◌, ◌++◌, length, sym, ap, ap₂, ◌∙◌, refl, subst, append_assoc, arith}
+use Rattle.std.proofs.Common.{◌≡◌, ◌≤◌, ◌<◌, ℕ, zero, suc, ◌+◌, ◌-◌, get_or, take, drop, length-drop, Bool, true, false, List, [], ◌∷◌, ◌++◌, length, sym, ap, ◌∙◌, refl, subst, append_assoc, arith}
 use Rattle.std.specs.Prelude.{All, filter}
 use Rattle.std.specs.Ordering.{is_lt}
 use Rattle.std.proofs.lemmas.List.{take_all}
 use native.Mathlib.Decide.{ℕ_discrete, dec_le}
 use Rattle.std.specs.declared.cmp.Ordering.{Ordering}
-use Rattle.std.specs.declared.cmp.Ordering.TheVariants.{Less, Greater}
-use Rattle.alg_core.specs.Fields.{FieldOn, Scalar, scalars, is_field, scalar}
-use Rattle.alg_core.specs.Keys.{TermPlace, Key, key, key_same, times_key, KeyDivides}
+use Rattle.std.specs.declared.cmp.Ordering.TheVariants.{Less}
+use Rattle.alg_core.specs.Fields.{FieldOn, scalars, is_field, scalar}
+use Rattle.alg_core.specs.Keys.{Key, key, key_same, times_key, KeyDivides}
 use Rattle.alg_core.specs.KeyLists.{keys_up_to}
 use Rattle.alg_core.specs.KeyOrders.{OrderOn, less_transitive, less_irreflexive}
 use Rattle.alg_core.specs.Leads.{lead_unique}
-use Rattle.alg_core.specs.Lists.{In}
 use Rattle.alg_core.specs.declared.term.Term.{Term}
 use Rattle.alg_core.specs.Spaces.{SpaceOver, entry, entries, IsTerm, IsAbove, Fits}
 use Rattle.alg_core.specs.SpaceOrder.{key_order, key_compare_places}
@@ -82,10 +81,10 @@ module _ {E : Type 0} (S : SpaceOver E) where
       let less = h 0 x (omega arith) in
       let lead = lead_first S x new f in
       let shorter = filter_shorter (λ s. is_lt (o.compare s (key x.0))) (λ s. is_lt (o.compare s (key e.0))) (keys_up_to S degree_limit) (key x.0)
-          (λ s q. less_true _ (less_transitive o s (key x.0) (key e.0) (true_less _ q) less))
-          (in_keys_up_to S positive degree_limit (key x.0) (vec_over S (x ∷ new) f (key x.0) lead.there) (up (key x.0) lead.there))
-          (not_true _ (λ q. less_irreflexive o (key x.0) (key x.0) refl (true_less _ q)))
-          (less_true _ less) in
+      (λ s q. less_true _ (less_transitive o s (key x.0) (key e.0) (true_less _ q) less))
+      (in_keys_up_to S positive degree_limit (key x.0) (vec_over S (x ∷ new) f (key x.0) lead.there) (up (key x.0) lead.there))
+      (not_true _ (λ q. less_irreflexive o (key x.0) (key x.0) refl (true_less _ q)))
+      (less_true _ less) in
       omega arith
 
   -- the entries after one have smaller keys
@@ -168,12 +167,14 @@ module _ {E : Type 0} (S : SpaceOver E) where
         let back = fits_back S (entries exps done) (e ∷ entries exps rest) s.fits in
         let top : times_key r.monomial r.lead ≡ key e.0 = lead_unique (scalars k) (is_field k) key_same o _ _ _ r.top (lead_first S e (entries exps rest) back) in
         let low = subst (λ x. Supp k (λ y. o.compare y x ≡ Less) (vec k (entries exps left))) top r.below in
-        let under = fits_keys S (λ y. o.compare y (key e.0) ≡ Less) (entries exps left) fits low in
-        (record {
-          fits = fits_replaced (entries exps done) e (entries exps rest) (entries exps left) s.fits fits (above_of e (entries exps left) back.0 fits under);
-          division = division_reduce S (listed k vs) v _ _ (vec k (entries exps left)) s.division r.factor r.monomial i r.lead d (subst (IsHomogeneous S d) is hom)
-              (subst (λ u. LeadBy k o u r.lead) is r.is_lead) r.top.there (ap (λ u. plus k (vec k (entries exps left)) ((vectors k).◌·◌ r.factor (shift k r.monomial u))) (sym is) ∙ r.sum);
-        }, under)
+        let under = fits_keys S (λ y. o.compare y (key e.0) ≡ Less) (entries exps left) fits low in (
+          record {
+            fits = fits_replaced (entries exps done) e (entries exps rest) (entries exps left) s.fits fits (above_of e (entries exps left) back.0 fits under);
+            division = division_reduce S (listed k vs) v _ _ (vec k (entries exps left)) s.division r.factor r.monomial i r.lead d (subst (IsHomogeneous S d) is hom)
+                (subst (λ u. LeadBy k o u r.lead) is r.is_lead) r.top.there (ap (λ u. plus k (vec k (entries exps left)) ((vectors k).◌·◌ r.factor (shift k r.monomial u))) (sym is) ∙ r.sum);
+          },
+          under,
+        )
 
     pub smaller_reduced : AllPositive S.weights → IsUpTo S degree_limit v → (done rest left : List (Term E M)) (t : Term E M) → Fits S (entries exps left)
         → State done left × All (λ f. (key_order S).compare (key f.0) (key (entry exps t).0) ≡ Less) (entries exps left) → size (entries exps left) < size (entries exps (t ∷ rest))
@@ -181,10 +182,11 @@ module _ {E : Type 0} (S : SpaceOver E) where
 
     pub ends : (done rest : List (Term E M)) → rest ≡ [] → State done rest → Fits S (entries exps done) × IsRemainder S (listed S.field vs) v (vec S.field (entries exps done)) × KeepsDegrees S v (vec S.field (entries exps done))
     ends done rest none s =
-        let z : vec k (entries exps rest) ≡ zero_vector k = ap (λ l. vec k (entries exps l)) none ∙ vec_nothing k in
-        (fits_front S (entries exps done) (entries exps rest) s.fits,
+        let z : vec k (entries exps rest) ≡ zero_vector k = ap (λ l. vec k (entries exps l)) none ∙ vec_nothing k in (
+          fits_front S (entries exps done) (entries exps rest) s.fits,
           division_end S (listed k vs) v _ (subst (λ u. Division S (listed k vs) v u (vec k (entries exps done))) z s.division),
-          s.division.done_degrees)
+          s.division.done_degrees,
+        )
 
   -- the search for a member whose lead divides a term
   module _ {M : Type 0} (exps : M → List ℕ) where

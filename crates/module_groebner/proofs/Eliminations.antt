@@ -1,21 +1,21 @@
 -- Elimination: by an elimination order the members of a basis that have no key in the first block generate all elements that have
 -- none there; those of the reduced basis are their reduced basis.
-use Rattle.std.proofs.Common.{◌≡◌, ◌⊎◌, inl, inr, ℕ, suc, ◌+◌, ◌<◌, ◌≤◌, true, List, [], ◌∷◌, length, sym, ap, ap₂, ◌∙◌, refl, subst, arith}
+use Rattle.std.proofs.Common.{◌≡◌, ℕ, suc, ◌<◌, ◌≤◌, true, List, length, sym, ap, subst, arith}
 use Rattle.std.specs.Prelude.{◌↔◌}
 use native.Mathlib.Decide.{dec_le}
-use Rattle.alg_core.specs.Fields.{FieldOn, Scalar, scalars, is_field}
-use Rattle.alg_core.specs.Keys.{Key, key_same, KeyDivides}
+use Rattle.alg_core.specs.Fields.{FieldOn, scalars}
+use Rattle.alg_core.specs.Keys.{Key, KeyDivides}
 use Rattle.alg_core.specs.Lists.{In}
 use Rattle.alg_core.specs.Spaces.{SpaceOver}
 use Rattle.alg_core.specs.SpaceOrder.{key_order}
 use Rattle.alg_core.specs.SpaceGrading.{AllPositive, degree}
 use Rattle.alg_core.specs.EliminationOrder.{elimination_order}
-use Rattle.alg_core.specs.Vectors.{Vect, vectors, coef_at, plus, zero_vector}
-use Rattle.poly_module.specs.Parts.{Supp, InVariables, IsPolynomial, supp_zero, supp_plus, supp_act}
+use Rattle.alg_core.specs.Vectors.{Vect, coef_at}
+use Rattle.poly_module.specs.Parts.{Supp, InVariables, supp_zero, supp_plus, supp_act}
 use Rattle.poly_module.specs.Variables.{product_positions}
-use Rattle.poly_module.specs.Degrees.{IsHomogeneous, part, graded_part_supp}
-use Rattle.poly_module.specs.Modules.{IsSubspace, LeadBy, InModule, IsGroebnerBasis, listed}
-use Rattle.poly_module.specs.ReducedLists.{LeadsFall, IsReduced, FitsOrder, IsReducedBasis, IsReducedBasisOf}
+use Rattle.poly_module.specs.Degrees.{IsHomogeneous, graded_part_supp}
+use Rattle.poly_module.specs.Modules.{LeadBy, InModule, IsGroebnerBasis, listed}
+use Rattle.poly_module.specs.ReducedLists.{LeadsFall, FitsOrder, IsReducedBasis, IsReducedBasisOf}
 use Rattle.poly_module.proofs.ModuleElements.{module_zero, module_plus, module_act, module_product, module_part}
 use Rattle.poly_module.proofs.LeadLaws.{lead_second}
 use Rattle.poly_module.proofs.Reduced.{place_of_member, reduced_homogeneous}

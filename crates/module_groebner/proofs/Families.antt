@@ -1,6 +1,6 @@
 -- The families of the members of lists: places, larger lists, degrees, and the modules that they generate.
-use Rattle.std.proofs.Common.{◌≡◌, ◌⊎◌, inl, inr, ℕ, zero, suc, ◌+◌, ◌<◌, ◌≤◌, List, [], ◌∷◌, ◌++◌, map, length, get_or, sym, ap, ap₂, ◌∙◌, refl, subst, arith}
-use Rattle.std.specs.Prelude.{All, Contains}
+use Rattle.std.proofs.Common.{◌≡◌, ◌⊎◌, inl, inr, ℕ, zero, suc, ◌<◌, ◌≤◌, List, [], ◌∷◌, ◌++◌, map, length, get_or, sym, ap, refl, subst, arith}
+use Rattle.std.specs.Prelude.{All}
 use Rattle.std.specs.List.Sorted.{IsPermutation}
 use Rattle.std.proofs.lemmas.List.Elements.{All-nil, All-cons, All-contains}
 use Rattle.std.proofs.lemmas.List.Sorted.{Contains-permutation}
@@ -10,7 +10,7 @@ use Rattle.alg_core.specs.Lists.{In}
 use Rattle.alg_core.specs.Spaces.{SpaceOver, Fits, IsPlace}
 use Rattle.alg_core.specs.SpaceOrder.{key_order}
 use Rattle.alg_core.specs.SpaceGrading.{degree}
-use Rattle.alg_core.specs.Keys.{TermPlace, key}
+use Rattle.alg_core.specs.Keys.{key}
 use Rattle.alg_core.specs.Vectors.{Entry, Vect, vec, zero_vector}
 use Rattle.alg_core.proofs.Members.{in_contains, contains_in}
 use Rattle.alg_core.proofs.FittingLists.{lead_first}

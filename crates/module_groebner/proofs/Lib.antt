@@ -20,3 +20,8 @@ pub mod ReducedExistence
 pub mod DegreeSteps
 pub mod CompletionSteps
 pub mod ItemSteps
+pub mod Existence
+pub mod ListLaws
+pub mod Transports
+pub mod CriterionSteps
+pub mod BasisSteps

@@ -1,9 +1,8 @@
 -- Treated pairs: at each multiple of the common multiple of their leads the multiples of the two members agree up to what lies
 -- below; Buchberger's criterion by pairs.
-use Rattle.std.proofs.Common.{◌≡◌, ◌⊎◌, inl, inr, ℕ, zero, suc, ◌+◌, ◌<◌, ◌≤◌, sym, ap, ap₂, ◌∙◌, refl, subst, arith}
+use Rattle.std.proofs.Common.{◌≡◌, ℕ, suc, ◌<◌, ◌≤◌, sym, ap, ap₂, ◌∙◌, subst, arith}
 use Rattle.std.specs.declared.cmp.Ordering.TheVariants.{Less}
 use native.Mathlib.Decide.{ℕ_discrete, dec_le}
-use Rattle.alg_core.specs.RingLaws as rings
 use Rattle.alg_core.specs.ModuleLaws as modules
 use Rattle.alg_core.specs.Fields.{FieldOn, Scalar, scalars, is_field}
 use Rattle.alg_core.specs.Monomials.{Mon, monomials, mon_cancel}
@@ -13,16 +12,16 @@ use Rattle.alg_core.specs.KeyOrders.{OrderOn}
 use Rattle.alg_core.specs.Leads.{lead_unique}
 use Rattle.alg_core.specs.Spaces.{SpaceOver}
 use Rattle.alg_core.specs.SpaceOrder.{key_order}
-use Rattle.alg_core.specs.SpaceGrading.{AllPositive, weight, degree, degree_times_key}
+use Rattle.alg_core.specs.SpaceGrading.{AllPositive, degree, degree_times_key}
 use Rattle.alg_core.specs.Vectors.{Vect, vectors, coef_at, plus, zero_vector, shift}
 use Rattle.alg_core.proofs.KeyMultiples.{key_lcm_least}
 use Rattle.alg_core.proofs.VectorLaws.{plus_comm, plus_zero, shift_linear, shift_plus}
 use Rattle.poly_module.specs.Signs.{minus}
 use Rattle.poly_module.specs.Degrees.{IsHomogeneous}
 use Rattle.poly_module.specs.Modules.{LeadBy, InModule}
-use Rattle.poly_module.proofs.SpaceVectorLaws.{minus_plus, minus_unique}
+use Rattle.poly_module.proofs.SpaceVectorLaws.{minus_unique}
 use Rattle.module_groebner.specs.Remainders.{IsSumBelow}
-use Rattle.module_groebner.specs.SVectors.{IsMonicMultiple, IsSVector, IsTreated}
+use Rattle.module_groebner.specs.SVectors.{IsSVector, IsTreated}
 use Rattle.module_groebner.proofs.Sums.{shift_mul, sum_zero, sum_act, below_shift}
 use Rattle.module_groebner.proofs.SVectors.{s_left, s_right}
 use Rattle.module_groebner.proofs.DegreeCriterion.{Agrees, Found, criterion_in_degree}
@@ -91,20 +90,26 @@ module _ {E : Type 0} (S : SpaceOver E) (g : ℕ → Vect S.field) where
     forth : (c : Scalar S.field) × (w : Vect S.field) × IsSumBelow S g x w × (plus S.field ((vectors S.field).◌·◌ c xj) w ≡ xi)
     unfolding plus
     forth =
-        let a = coef_at k (g i) sv.left in
-        ((scalars k).◌*◌ a sv.is_right.factor, (vectors k).◌·◌ a (shift k y v), sum_act S g (λ z. o.compare z x ≡ Less) a _ raised_below,
-        plus_comm k _ _ ∙ ap (plus k ((vectors k).◌·◌ a (shift k y v))) ((vectors k).mul_act a sv.is_right.factor xj) ∙ sym ((vectors k).act_add a _ _) ∙ ap ((vectors k).◌·◌ a) raised ∙ undo sv.is_left.factor a xi sv.is_left.monic)
+        let a = coef_at k (g i) sv.left in (
+          (scalars k).◌*◌ a sv.is_right.factor,
+          (vectors k).◌·◌ a (shift k y v),
+          sum_act S g (λ z. o.compare z x ≡ Less) a _ raised_below,
+          plus_comm k _ _ ∙ ap (plus k ((vectors k).◌·◌ a (shift k y v))) ((vectors k).mul_act a sv.is_right.factor xj) ∙ sym ((vectors k).act_add a _ _) ∙ ap ((vectors k).◌·◌ a) raised ∙ undo sv.is_left.factor a xi sv.is_left.monic,
+        )
 
     -- and that of the second by that of the first
     back : (c : Scalar S.field) × (w : Vect S.field) × IsSumBelow S g x w × (plus S.field ((vectors S.field).◌·◌ c xi) w ≡ xj)
     unfolding plus minus
     back =
         let b = coef_at k (g j) sv.right in
-        let neg = (vectors k).◌·◌ ((scalars k).neg (scalars k).one) (shift k y v) in
-        ((scalars k).◌*◌ b sv.is_left.factor, (vectors k).◌·◌ b neg, sum_act S g (λ z. o.compare z x ≡ Less) b neg (sum_act S g (λ z. o.compare z x ≡ Less) _ _ raised_below),
-        ap (λ u. plus k u ((vectors k).◌·◌ b neg)) ((vectors k).mul_act b sv.is_left.factor xi) ∙ sym ((vectors k).act_add b _ _)
-            ∙ ap ((vectors k).◌·◌ b) (ap (plus k ((vectors k).◌·◌ sv.is_left.factor xi)) (sym (modules.minus_is (vectors k) (shift k y v))) ∙ sym (minus_unique k _ _ _ (plus_comm k _ _ ∙ raised)))
-            ∙ undo sv.is_right.factor b xj sv.is_right.monic)
+        let neg = (vectors k).◌·◌ ((scalars k).neg (scalars k).one) (shift k y v) in (
+          (scalars k).◌*◌ b sv.is_left.factor,
+          (vectors k).◌·◌ b neg,
+          sum_act S g (λ z. o.compare z x ≡ Less) b neg (sum_act S g (λ z. o.compare z x ≡ Less) _ _ raised_below),
+          ap (λ u. plus k u ((vectors k).◌·◌ b neg)) ((vectors k).mul_act b sv.is_left.factor xi) ∙ sym ((vectors k).act_add b _ _)
+              ∙ ap ((vectors k).◌·◌ b) (ap (plus k ((vectors k).◌·◌ sv.is_left.factor xi)) (sym (modules.minus_is (vectors k) (shift k y v))) ∙ sym (minus_unique k _ _ _ (plus_comm k _ _ ∙ raised)))
+              ∙ undo sv.is_right.factor b xj sv.is_right.monic,
+        )
 
   -- the pairs of a degree up to d are treated
   abbrev pub Treats : ℕ → Type 0

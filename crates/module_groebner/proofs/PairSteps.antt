@@ -3,7 +3,6 @@ use Rattle.std.proofs.Common.{◌≡◌, ◌<◌, ◌≤◌, ◌+◌, ℕ, List,
 use native.Mathlib.Decide.{dec_le}
 use Rattle.alg_core.specs.Fields.{FieldOn, scalars, is_field}
 use Rattle.alg_core.specs.CommonMultiples.{common_multiple}
-use Rattle.alg_core.specs.DpOrder.{weighted_degree}
 use Rattle.alg_core.specs.Monomials.{Mon, monomials, mono, mon_cancel}
 use Rattle.alg_core.specs.Keys.{TermPlace, Key, key, times_key, KeyDivides}
 use Rattle.alg_core.specs.declared.term.Term.{Term}

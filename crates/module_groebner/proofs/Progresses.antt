@@ -1,36 +1,33 @@
 -- The number that falls with each step of a completion, and the degrees of pairs.
-use Rattle.std.proofs.Common.{◌≡◌, ◌⊎◌, inl, inr, ℕ, zero, suc, ◌+◌, ◌*◌, ◌<◌, ◌≤◌, ◌==◌, ◌&&◌, ◌||◌, Bool, true, false, IsTrue, List, [], ◌∷◌, ◌++◌, map, length, get_or, sym, ap, ap₂, ◌∙◌, refl, subst, arith, length-append, append-nil}
-use Rattle.std.specs.Prelude.{All, Contains, filter, not, ◌↔◌}
+use Rattle.std.proofs.Common.{◌≡◌, inl, inr, ℕ, zero, suc, ◌+◌, ◌*◌, ◌<◌, ◌≤◌, ◌==◌, ◌&&◌, ◌||◌, Bool, true, false, IsTrue, List, [], ◌∷◌, ◌++◌, length, get_or, sym, ap, ◌∙◌, refl, subst, arith, length-append, append-nil}
+use Rattle.std.specs.Prelude.{All, filter, not, ◌↔◌}
 use Rattle.std.specs.List.{list_any}
 use Rattle.std.specs.List.Sorted.{IsPermutation}
 use Rattle.std.proofs.lemmas.List.Sorted.{length_permutation}
 use Rattle.std.proofs.lemmas.List.Folds.{list_any-append}
 use Rattle.std.proofs.lemmas.Bool.Decides.{nat_tests}
 use Rattle.std.proofs.Math.Nat.{mul-le-mul_left}
-use Rattle.alg_core.specs.ExponentLists.{lcm, divides}
-use Rattle.alg_core.specs.Fields.{scalars, is_field}
-use Rattle.alg_core.specs.Keys.{Key, TermPlace, key, key_same, times_key_one, KeyDivides}
-use Rattle.alg_core.specs.CommonMultiples.{common_multiple}
+use Rattle.alg_core.specs.ExponentLists.{divides}
+use Rattle.alg_core.specs.Keys.{TermPlace, key, times_key_one, KeyDivides}
 use Rattle.alg_core.specs.KeyLists.{place_degree, places_up_to}
-use Rattle.alg_core.specs.Leads.{lead_unique}
 use Rattle.alg_core.specs.Lists.{In, map_in}
 use Rattle.alg_core.specs.Monomials.{monomials}
 use Rattle.alg_core.specs.Spaces.{SpaceOver, Fits, IsPlace}
 use Rattle.alg_core.specs.SpaceOrder.{key_order}
-use Rattle.alg_core.specs.SpaceGrading.{AllPositive, degree}
+use Rattle.alg_core.specs.SpaceGrading.{AllPositive}
 use Rattle.alg_core.specs.Vectors.{Entry, Vect, vec, coef_at, zero_vector}
-use Rattle.alg_core.proofs.Members.{filter_shorter, contains_in}
+use Rattle.alg_core.proofs.Members.{filter_shorter}
 use Rattle.alg_core.proofs.KeyLists.{degree_place, places_up_to_exact}
-use Rattle.alg_core.proofs.KeyMultiples.{place_divides, place_lcm}
+use Rattle.alg_core.proofs.KeyMultiples.{place_divides}
 use Rattle.alg_core.proofs.FittingLists.{lead_first, vec_not_zero}
 use Rattle.alg_core.proofs.VectorLaws.{vec_nothing}
-use Rattle.poly_module.specs.Modules.{LeadBy, listed}
+use Rattle.poly_module.specs.Modules.{LeadBy}
 use Rattle.module_groebner.specs.HomogeneousLists.{IsHomogeneousUpTo}
 use Rattle.module_groebner.specs.Remainders.{IsRemainder}
-use Rattle.module_groebner.specs.Progress.{Progress, lead_place, is_multiple, pair_degree, undivided, left}
-use Rattle.module_groebner.specs.Completions.{vects, IsPair, IsCurrentGenerator, IsCurrentPair, members, StandsOver}
+use Rattle.module_groebner.specs.Progress.{Progress, lead_place, is_multiple, undivided, left}
+use Rattle.module_groebner.specs.Completions.{vects, IsPair, members, StandsOver}
 use Rattle.module_groebner.proofs.Completions.{appended, IsStep}
-use Rattle.module_groebner.proofs.Families.{all_in, in_get, vects_at, entries_lead, length_map, listed_in}
+use Rattle.module_groebner.proofs.Families.{all_in, vects_at, entries_lead}
 
 -- tests of the two parts
 both_true : (a b : Bool) → a ≡ true → b ≡ true → (a && b) ≡ true

@@ -1,8 +1,7 @@
 -- Bases and reduced bases: a list of elements whose leads divide all leads generates the module; what makes a reduced basis.
-use Rattle.std.proofs.Common.{◌≡◌, ◌⊎◌, inl, inr, ℕ, zero, suc, ◌+◌, ◌<◌, ◌≤◌, List, [], ◌∷◌, sym, ap, ap₂, ◌∙◌, refl, subst, arith}
-use Rattle.std.specs.declared.cmp.Ordering.TheVariants.{Less}
+use Rattle.std.proofs.Common.{◌≡◌, inl, inr, ℕ, zero, suc, List, [], ◌∷◌, sym, ap, ◌∙◌, refl, subst}
 use Rattle.alg_core.specs.ModuleLaws as modules
-use Rattle.alg_core.specs.Fields.{FieldOn, Scalar, scalars, is_field}
+use Rattle.alg_core.specs.Fields.{FieldOn, scalars, is_field}
 use Rattle.alg_core.specs.Keys.{Key, key_same, KeyDivides}
 use Rattle.alg_core.specs.KeyOrders.{OrderOn}
 use Rattle.alg_core.specs.Leads.{has_lead, HasLead}
@@ -16,15 +15,15 @@ use Rattle.poly_module.specs.Signs.{minus}
 use Rattle.poly_module.specs.Polynomials.{product}
 use Rattle.poly_module.specs.Parts.{IsPolynomial}
 use Rattle.poly_module.specs.Degrees.{IsHomogeneous, part, parts_below, parts_sum, grade_bound, graded_part_graded}
-use Rattle.poly_module.specs.Modules.{IsSubspace, LeadBy, InModule, IsGroebnerBasis, listed}
-use Rattle.poly_module.specs.ReducedLists.{LeadsFall, IsReduced, IsReducedBasisOf}
+use Rattle.poly_module.specs.Modules.{IsSubspace, LeadBy, InModule, listed}
+use Rattle.poly_module.specs.ReducedLists.{LeadsFall, IsReducedBasisOf}
 use Rattle.poly_module.proofs.ModuleElements.{module_zero, module_plus, module_product, module_subspace, module_part, module_ind}
 use Rattle.poly_module.proofs.SpaceVectorLaws.{minus_unique}
-use Rattle.poly_module.proofs.Reduced.{divides_trans, place_of_member, listed_has}
+use Rattle.poly_module.proofs.Reduced.{divides_trans, listed_has}
 use Rattle.module_groebner.specs.Remainders.{IsRemainder, KeepsDegrees}
-use Rattle.module_groebner.proofs.Remainders.{Divided, remainder_exists, remainder_difference, remainder_inside}
-use Rattle.module_groebner.proofs.Families.{homogeneous_each, member_inside}
-use Rattle.module_groebner.proofs.CompletionEnds.{part_lead, lead_there, lead_not_zero}
+use Rattle.module_groebner.proofs.Remainders.{Divided, remainder_exists, remainder_difference}
+use Rattle.module_groebner.proofs.Families.{homogeneous_each}
+use Rattle.module_groebner.proofs.CompletionEnds.{lead_there, lead_not_zero}
 
 module _ {E : Type 0} (S : SpaceOver E) where
   abbrev k : FieldOn E

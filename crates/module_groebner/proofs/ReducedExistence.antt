@@ -1,9 +1,9 @@
 -- A finite list of elements whose leads divide all leads of a module gives its reduced basis.
-use Rattle.std.proofs.Common.{◌≡◌, ◌⊎◌, inl, inr, ℕ, ◌+◌, ◌<◌, ◌≤◌, List, [], ◌∷◌, map, sym, ap, ap₂, ◌∙◌, refl, subst, arith}
+use Rattle.std.proofs.Common.{◌≡◌, ◌⊎◌, inl, inr, ℕ, List, [], ◌∷◌, map, sym, ap, ap₂, ◌∙◌, refl, subst}
 use Rattle.std.specs.declared.cmp.Ordering.TheVariants.{Less}
 use Rattle.alg_core.specs.RingLaws as rings
 use Rattle.alg_core.specs.CanonicalLists.{indicator_yes, indicator_no}
-use Rattle.alg_core.specs.Fields.{FieldOn, Scalar, scalars, is_field, scalar_same}
+use Rattle.alg_core.specs.Fields.{FieldOn, Scalar, scalars, is_field}
 use Rattle.alg_core.specs.Keys.{Key, key_same, KeyDivides}
 use Rattle.alg_core.specs.KeyOrders.{OrderOn, less_irreflexive}
 use Rattle.alg_core.specs.Leads.{has_lead, HasLead, lead_unique}
@@ -18,7 +18,7 @@ use Rattle.poly_module.specs.Signs.{minus}
 use Rattle.poly_module.specs.Polynomials.{single_vector}
 use Rattle.poly_module.specs.Parts.{Supp, supp_plus, supp_act, supp_single, coef_at_single, supp_outside}
 use Rattle.poly_module.specs.Degrees.{IsHomogeneous}
-use Rattle.poly_module.specs.Modules.{LeadBy, InModule, listed}
+use Rattle.poly_module.specs.Modules.{LeadBy, listed}
 use Rattle.poly_module.specs.ReducedLists.{LeadsFall, IsReducedBasisOf}
 use Rattle.poly_module.proofs.EchelonLists.{coef_at_act}
 use Rattle.poly_module.proofs.LeadLaws.{lead_act, lead_plus}
@@ -26,11 +26,11 @@ use Rattle.poly_module.proofs.SpaceVectorLaws.{minus_plus, supp_minus}
 use Rattle.poly_module.proofs.Reduced.{divides_trans, place_of_member, listed_has}
 use Rattle.module_groebner.specs.Remainders.{IsRemainder, KeepsDegrees}
 use Rattle.module_groebner.proofs.Sums.{not_greater_less}
-use Rattle.module_groebner.proofs.Remainders.{AtMost, Divided, Irreducible, lead_falls, single_lead, remainder_exists, remainder_difference, remainder_low}
+use Rattle.module_groebner.proofs.Remainders.{Divided, Irreducible, lead_falls, single_lead, remainder_exists, remainder_difference, remainder_low}
 use Rattle.module_groebner.proofs.Families.{homogeneous_each}
 use Rattle.module_groebner.proofs.ReducedBases.{IsGradedModule, set_difference, generated_within, reduced_from}
 use Rattle.module_groebner.proofs.CompletionEnds.{lead_there}
-use Rattle.module_groebner.proofs.ReducedLists.{Row, NoDivision, leads, same_row, IsMinimal, minimal, Fall, sorted, from_sorted, in_sorted, fall_sorted}
+use Rattle.module_groebner.proofs.ReducedLists.{Row, NoDivision, leads, same_row, minimal, Fall, sorted, from_sorted, in_sorted, fall_sorted}
 
 module _ {E : Type 0} (S : SpaceOver E) where
   abbrev k : FieldOn E
@@ -127,14 +127,20 @@ module _ {E : Type 0} (S : SpaceOver E) where
             (generated_within S U graded (listed k heads) heads_inside w.0 w.1)
 
         reduced_row : (n : Vect S.field) × IsTailReduced e n
-        reduced_row = ((vectors k).◌·◌ a whole, record {
-          inside = graded.subspace.act a whole whole_inside;
-          lead = lead_act k o a not_zero whole t whole_lead;
-          monic = coef_at_act k a whole t ∙ ap ((scalars k).◌*◌ a) whole_coef ∙ (scalars k).mul_comm a c ∙ (is_field k).mul_inverse c there;
-          homogeneous = ((rows e i).degree, supp_act k (λ x. degree S x ≡ (rows e i).degree) a whole (supp_plus k (λ x. degree S x ≡ (rows e i).degree) first remainder.0 first_homogeneous
-              (remainder.2.homogeneous (rows e i).degree (supp_minus k (λ x. degree S x ≡ (rows e i).degree) e.0 first (rows e i).homogeneous first_homogeneous))));
-          rest = λ x nz. other x nz (key_same t x);
-        })
+        reduced_row = (
+          (vectors k).◌·◌ a whole,
+          record {
+            inside = graded.subspace.act a whole whole_inside;
+            lead = lead_act k o a not_zero whole t whole_lead;
+            monic = coef_at_act k a whole t ∙ ap ((scalars k).◌*◌ a) whole_coef ∙ (scalars k).mul_comm a c ∙ (is_field k).mul_inverse c there;
+            homogeneous = (
+              (rows e i).degree,
+              supp_act k (λ x. degree S x ≡ (rows e i).degree) a whole (supp_plus k (λ x. degree S x ≡ (rows e i).degree) first remainder.0 first_homogeneous
+                  (remainder.2.homogeneous (rows e i).degree (supp_minus k (λ x. degree S x ≡ (rows e i).degree) e.0 first (rows e i).homogeneous first_homogeneous))),
+            );
+            rest = λ x nz. other x nz (key_same t x);
+          },
+        )
           where
             there : ¬ (c ≡ (scalars k).zero)
             there = lead_there S e.0 t (rows e i).lead
@@ -168,17 +174,23 @@ module _ {E : Type 0} (S : SpaceOver E) where
 
       falls : (l : List (Row S)) → Fall S l → ((f : Row S) → In f l → LeadBy S.field (key_order S) f.0 f.1) → LeadsFall S.field (key_order S) (map (λ f. f.0) l)
       falls [] h lead = tt
-      falls (e ∷ l) h lead = (λ w s t i ls lt.
-          let f = from_map (λ f. f.0) w l i in
-          let p : s ≡ e.1 = lead_unique (scalars k) (is_field k) key_same o e.0 s e.1 ls (lead e (inl refl)) in
-          let q : t ≡ f.0.1 = lead_unique (scalars k) (is_field k) key_same o f.0.0 t f.0.1 (subst (λ y. LeadBy k o y t) (sym f.2) lt) (lead f.0 (inr f.1)) in
-          ap₂ o.compare q p ∙ h.0 f.0 f.1, falls l h.1 (λ f i. lead f (inr i)))
+      falls (e ∷ l) h lead = (
+        λ w s t i ls lt.
+            let f = from_map (λ f. f.0) w l i in
+            let p : s ≡ e.1 = lead_unique (scalars k) (is_field k) key_same o e.0 s e.1 ls (lead e (inl refl)) in
+            let q : t ≡ f.0.1 = lead_unique (scalars k) (is_field k) key_same o f.0.0 t f.0.1 (subst (λ y. LeadBy k o y t) (sym f.2) lt) (lead f.0 (inr f.1)) in
+            ap₂ o.compare q p ∙ h.0 f.0 f.1,
+        falls l h.1 (λ f i. lead f (inr i)),
+      )
 
       -- the reduced basis, where no lead divides another
       made : NoDivision S (leads S m) → ((v : Vect S.field) (t : Key) → U v → LeadBy S.field (key_order S) v t → (e : Row S) × In e m × KeyDivides e.1 t) → (vs : List (Vect S.field)) × IsReducedBasisOf S U vs
-      made apart covers = (vs, reduced_from S U graded positive vs
-          (λ w i. (data_of w i).3.3.inside) (λ w i. (data_of w i).3.3.homogeneous) covered
-          (λ w i. ((data_of w i).1.1, lead_of w i)) monic together (falls (sorted S n.0) (fall_sorted S n.0 (subst (NoDivision S) (sym n.1) apart)) (λ f i. row_lead f (from_sorted S n.0 f i))))
+      made apart covers = (
+        vs,
+        reduced_from S U graded positive vs
+            (λ w i. (data_of w i).3.3.inside) (λ w i. (data_of w i).3.3.homogeneous) covered
+            (λ w i. ((data_of w i).1.1, lead_of w i)) monic together (falls (sorted S n.0) (fall_sorted S n.0 (subst (NoDivision S) (sym n.1) apart)) (λ f i. row_lead f (from_sorted S n.0 f i))),
+      )
         where
           n : (n : List (Row S)) × (leads S n ≡ leads S m) × ((f : Row S) → In f n → (e : Row S) × In e m × (f.1 ≡ e.1) × IsTailReduced e f.0)
           n = reduced_rows m (λ e i. i)

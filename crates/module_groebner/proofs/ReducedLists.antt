@@ -1,37 +1,16 @@
 -- From a list of elements whose leads divide all leads to the reduced basis: keep the minimal leads, reduce the tails, sort.
-use Rattle.std.proofs.Common.{◌≡◌, ◌⊎◌, inl, inr, ℕ, ◌+◌, ◌<◌, ◌≤◌, List, [], ◌∷◌, map, sym, ap, ap₂, ◌∙◌, refl, subst, arith}
+use Rattle.std.proofs.Common.{◌≡◌, ◌⊎◌, inl, inr, ℕ, List, [], ◌∷◌, map, sym, ◌∙◌, refl, subst}
 use Rattle.std.specs.declared.cmp.Ordering.TheVariants.{Less}
-use Rattle.alg_core.specs.RingLaws as rings
-use Rattle.alg_core.specs.ModuleLaws as modules
-use Rattle.alg_core.specs.CanonicalLists.{indicator_yes, indicator_no}
-use Rattle.alg_core.specs.Fields.{FieldOn, Scalar, scalars, is_field, scalar_same}
+use Rattle.alg_core.specs.Fields.{FieldOn}
 use Rattle.alg_core.specs.Monomials.{monomials}
-use Rattle.alg_core.specs.Keys.{Key, key_same, times_key_one, KeyDivides, key_divides_dec}
-use Rattle.alg_core.specs.KeyOrders.{OrderOn, Trichotomy, trichotomy, less_transitive, less_irreflexive, less_asymmetric}
-use Rattle.alg_core.specs.Leads.{has_lead, HasLead, lead_unique}
+use Rattle.alg_core.specs.Keys.{Key, times_key_one, KeyDivides, key_divides_dec}
+use Rattle.alg_core.specs.KeyOrders.{OrderOn, Trichotomy, trichotomy, less_transitive}
 use Rattle.alg_core.specs.Lists.{In, map_in}
 use Rattle.alg_core.specs.Spaces.{SpaceOver}
 use Rattle.alg_core.specs.SpaceOrder.{key_order}
-use Rattle.alg_core.specs.SpaceGrading.{AllPositive, degree}
-use Rattle.alg_core.specs.Vectors.{Vect, vectors, coef_at, plus, zero_vector}
+use Rattle.alg_core.specs.Vectors.{Vect, zero_vector}
 use Rattle.alg_core.proofs.Members.{from_map}
-use Rattle.alg_core.proofs.VectorLaws.{plus_assoc, plus_comm, coef_at_plus, coef_at_zero}
-use Rattle.poly_module.specs.Signs.{minus}
-use Rattle.poly_module.specs.Polynomials.{single_vector}
-use Rattle.poly_module.specs.Parts.{Supp, supp_plus, supp_act, supp_single, coef_at_single, supp_outside}
-use Rattle.poly_module.specs.Degrees.{IsHomogeneous}
-use Rattle.poly_module.specs.Modules.{LeadBy, InModule, listed}
-use Rattle.poly_module.specs.ReducedLists.{LeadsFall, IsReducedBasisOf}
-use Rattle.poly_module.proofs.EchelonLists.{coef_at_act}
-use Rattle.poly_module.proofs.LeadLaws.{lead_act}
-use Rattle.poly_module.proofs.SpaceVectorLaws.{minus_plus, supp_minus}
-use Rattle.poly_module.proofs.Reduced.{divides_trans, place_of_member, listed_has}
-use Rattle.module_groebner.specs.Remainders.{IsRemainder, KeepsDegrees}
-use Rattle.module_groebner.proofs.Remainders.{AtMost, Divided, Irreducible, lead_falls, remainder_exists, remainder_difference, remainder_low}
-use Rattle.module_groebner.proofs.Sums.{not_greater_less}
-use Rattle.module_groebner.proofs.Families.{homogeneous_each, member_inside}
-use Rattle.module_groebner.proofs.ReducedBases.{IsGradedModule, set_difference, generated_within, reduced_from}
-use Rattle.module_groebner.proofs.CompletionEnds.{lead_there}
+use Rattle.poly_module.proofs.Reduced.{divides_trans}
 
 module _ {E : Type 0} (S : SpaceOver E) where
   abbrev k : FieldOn E

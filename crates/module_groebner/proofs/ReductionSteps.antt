@@ -1,12 +1,12 @@
 -- One step of division: the multiple of a vector that cancels the lead of another, its value, its size and what is left.
-use Rattle.std.proofs.Common.{Some, Bool, false, ◌≡◌, ◌≢◌, ◌⊎◌, inl, inr, ◌≤◌, ◌+◌, ℕ, List, length, sym, ap, ap₂, ◌∙◌, refl, subst, arith}
+use Rattle.std.proofs.Common.{Some, Bool, false, ◌≡◌, ◌⊎◌, inl, inr, ◌≤◌, ◌+◌, ℕ, List, length, sym, ap, ◌∙◌, subst, arith}
 use Rattle.std.specs.Prelude.{Option, IfSome, IsTrue}
 use Rattle.std.specs.declared.cmp.Ordering.TheVariants.{Less}
 use Rattle.alg_core.specs.RingLaws as rings
-use Rattle.alg_core.specs.Fields.{FieldOn, Has, Scalar, scalars, is_field, scalar, scalar_mul, scalar_one}
+use Rattle.alg_core.specs.Fields.{FieldOn, Has, scalars, is_field, scalar, scalar_mul, scalar_one}
 use Rattle.alg_core.specs.DpOrder.{weighted_degree}
-use Rattle.alg_core.specs.Monomials.{Mon, mono, exponent_mono}
-use Rattle.alg_core.specs.Keys.{Key, key_same, times_key, KeyDivides}
+use Rattle.alg_core.specs.Monomials.{mono, exponent_mono}
+use Rattle.alg_core.specs.Keys.{Key, key_same, times_key}
 use Rattle.alg_core.specs.KeyOrders.{OrderOn, less_transitive}
 use Rattle.alg_core.specs.Leads.{has_lead, HasLead, lead_unique}
 use Rattle.alg_core.specs.declared.term.Term.{Term}

@@ -1,5 +1,5 @@
 -- Division: what a step keeps, that there is a remainder, and what a remainder says of the module.
-use Rattle.std.proofs.Common.{◌≡◌, ◌⊎◌, inl, inr, ℕ, zero, suc, ◌+◌, ◌<◌, ◌≤◌, List, [], ◌∷◌, ◌++◌, sym, ap, ap₂, ◌∙◌, refl, subst, arith}
+use Rattle.std.proofs.Common.{◌≡◌, ◌⊎◌, inl, inr, ℕ, zero, suc, ◌+◌, ◌<◌, ◌≤◌, List, [], ◌∷◌, sym, ap, ◌∙◌, refl, subst, arith}
 use Rattle.std.specs.declared.cmp.Ordering.{Ordering}
 use Rattle.std.specs.declared.cmp.Ordering.TheVariants.{Less, Equal, Greater}
 use Rattle.alg_core.specs.RingLaws as rings
@@ -14,20 +14,19 @@ use Rattle.alg_core.specs.Spaces.{SpaceOver}
 use Rattle.alg_core.specs.SpaceOrder.{key_order}
 use Rattle.alg_core.specs.SpaceGrading.{AllPositive, weight, degree, degree_times_key, rank, rank_less}
 use Rattle.alg_core.specs.Vectors.{Vect, vectors, coef_at, plus, zero_vector, shift}
-use Rattle.alg_core.proofs.VectorLaws.{plus_assoc, plus_comm, plus_left_comm, plus_zero, zero_plus, coef_at_zero, coef_at_plus}
+use Rattle.alg_core.proofs.VectorLaws.{plus_assoc, plus_comm, plus_zero, zero_plus, coef_at_zero, coef_at_plus}
 use Rattle.poly_module.specs.Signs.{minus}
 use Rattle.poly_module.specs.Polynomials.{single_vector}
-use Rattle.poly_module.specs.Parts.{Supp, supp_zero, supp_plus, supp_act, supp_single, supp_weaken, supp_outside, coef_at_single}
+use Rattle.poly_module.specs.Parts.{Supp, supp_zero, supp_plus, supp_act, supp_single, coef_at_single}
 use Rattle.poly_module.specs.Degrees.{IsHomogeneous}
 use Rattle.poly_module.specs.Forms.{homogeneous_shift}
 use Rattle.poly_module.specs.Modules.{LeadBy, InModule, listed}
-use Rattle.poly_module.specs.SpaceVectors.{IsUpTo}
 use Rattle.poly_module.proofs.EchelonLists.{coef_at_act}
 use Rattle.poly_module.proofs.LeadLaws.{coef_shift, lead_act, lead_shift, lead_greatest}
 use Rattle.poly_module.proofs.SpaceVectorLaws.{minus_plus, minus_unique, supp_minus}
 use Rattle.poly_module.proofs.ModuleElements.{module_zero, module_plus, module_act}
-use Rattle.module_groebner.specs.Remainders.{IsSum, IsSumBelow, IsSumUpTo, IsRemainder, KeepsDegrees}
-use Rattle.module_groebner.proofs.Sums.{sum_zero, sum_plus, sum_one, sum_keys, sum_in_module, not_greater_less}
+use Rattle.module_groebner.specs.Remainders.{IsSumUpTo, IsRemainder, KeepsDegrees}
+use Rattle.module_groebner.proofs.Sums.{sum_zero, sum_plus, sum_one, sum_keys, sum_in_module}
 
 module _ {E : Type 0} (S : SpaceOver E) where
   abbrev k : FieldOn E
@@ -288,7 +287,7 @@ module _ {E : Type 0} (S : SpaceOver E) where
               let c = coef_at k rest t in
               let q = fitted c (g i) s m in
               let next = division_reduce g v rest done (minus k rest q) h ((scalars k).◌*◌ c ((is_field k).inverse (coef_at k (g i) s))) m i s (homogeneous i).0 (homogeneous i).1 ls
-                  (λ z. lead.there (ap (coef_at k rest) (sym e) ∙ z)) (minus_plus k rest q) in
+              (λ z. lead.there (ap (coef_at k rest) (sym e) ∙ z)) (minus_plus k rest q) in
               again (minus k rest q) done next (λ r lr. lower t r _ _ lead next lr (lead_falls rest q (minus k rest q) t r (minus_plus k rest q) lead
               (subst (LeadBy k o q) e (fitted_lead c lead.there (g i) s m ls)) (ap (coef_at k q) (sym e) ∙ fitted_coef c (g i) s m ls) lr))
 

@@ -1,35 +1,34 @@
 -- S-vectors: their keys, degrees and module, that there is one, and when a pair is treated.
-use Rattle.std.proofs.Common.{◌≡◌, ◌⊎◌, inl, inr, ℕ, zero, suc, ◌+◌, ◌<◌, ◌≤◌, List, [], ◌∷◌, ◌++◌, length, sym, ap, ap₂, ◌∙◌, refl, subst, arith}
+use Rattle.std.proofs.Common.{◌≡◌, ◌⊎◌, inl, inr, ℕ, ◌+◌, sym, ap, ap₂, ◌∙◌, refl, subst}
 use Rattle.std.specs.declared.cmp.Ordering.TheVariants.{Less}
 use Rattle.alg_core.specs.RingLaws as rings
-use Rattle.alg_core.specs.ModuleLaws as modules
 use Rattle.alg_core.specs.Fields.{FieldOn, Scalar, scalars, is_field}
-use Rattle.alg_core.specs.Monomials.{Mon, monomials, mon_cancel}
-use Rattle.alg_core.specs.Keys.{Key, key_same, times_key, times_key_one, KeyDivides}
+use Rattle.alg_core.specs.Monomials.{monomials, mon_cancel}
+use Rattle.alg_core.specs.Keys.{Key, key_same, times_key_one, KeyDivides}
 use Rattle.alg_core.specs.CommonMultiples.{common_multiple}
-use Rattle.alg_core.specs.KeyOrders.{OrderOn, Trichotomy, trichotomy, less_transitive, less_irreflexive}
+use Rattle.alg_core.specs.KeyOrders.{OrderOn, Trichotomy, trichotomy}
 use Rattle.alg_core.specs.Leads.{has_lead, HasLead, lead_unique}
 use Rattle.alg_core.specs.Spaces.{SpaceOver}
 use Rattle.alg_core.specs.SpaceOrder.{key_order}
 use Rattle.alg_core.specs.SpaceGrading.{weight, degree, degree_times_key}
-use Rattle.alg_core.specs.Vectors.{Vect, vectors, coef_at, plus, zero_vector, shift}
+use Rattle.alg_core.specs.Vectors.{Vect, vectors, coef_at, zero_vector, shift}
 use Rattle.alg_core.proofs.KeyMultiples.{key_lcm_left, key_lcm_right}
-use Rattle.alg_core.proofs.VectorLaws.{plus_zero, zero_plus, coef_at_zero, coef_at_plus}
+use Rattle.alg_core.proofs.VectorLaws.{coef_at_plus}
 use Rattle.poly_module.specs.Signs.{minus}
-use Rattle.poly_module.specs.Polynomials.{single_vector, one_vector, product}
+use Rattle.poly_module.specs.Polynomials.{product}
 use Rattle.poly_module.specs.Products.{shift_product, one_product, one_vector_single}
-use Rattle.poly_module.specs.Parts.{Supp, supp_act, supp_outside}
+use Rattle.poly_module.specs.Parts.{supp_act}
 use Rattle.poly_module.specs.Degrees.{IsHomogeneous}
 use Rattle.poly_module.specs.Forms.{homogeneous_shift}
-use Rattle.poly_module.specs.Modules.{LeadBy, InModule, listed}
+use Rattle.poly_module.specs.Modules.{LeadBy, InModule}
 use Rattle.poly_module.proofs.EchelonLists.{coef_at_act}
 use Rattle.poly_module.proofs.LeadLaws.{coef_shift, lead_act, lead_shift}
 use Rattle.poly_module.proofs.SpaceVectorLaws.{minus_plus, minus_unique, supp_minus}
-use Rattle.poly_module.proofs.ModuleElements.{module_plus, module_act, module_shift, module_member}
-use Rattle.module_groebner.specs.Remainders.{IsSum, IsSumBelow, IsSumUpTo, IsRemainder}
+use Rattle.poly_module.proofs.ModuleElements.{module_act, module_shift}
+use Rattle.module_groebner.specs.Remainders.{IsSumBelow, IsRemainder}
 use Rattle.module_groebner.specs.SVectors.{IsMonicMultiple, IsSVector, IsTreated}
 use Rattle.module_groebner.proofs.Sums.{sum_zero, sum_plus, sum_one, Grows, sum_grows, up_to_below, not_greater_less}
-use Rattle.module_groebner.proofs.Remainders.{AtMost, lead_keys, remainder_low, module_difference}
+use Rattle.module_groebner.proofs.Remainders.{remainder_low, module_difference}
 
 module _ {E : Type 0} (S : SpaceOver E) where
   abbrev k : FieldOn E
@@ -75,14 +74,17 @@ module _ {E : Type 0} (S : SpaceOver E) where
   -- there is one for each key that the lead divides
   pub multiple_exists : (v : Vect S.field) (t l : Key) → LeadBy S.field (key_order S) v t → KeyDivides t l → (u : Vect S.field) × IsMonicMultiple S v t l u
   unfolding coef_at
-  multiple_exists v t l lead d = ((vectors k).◌·◌ ((is_field k).inverse (coef_at k v t)) (shift k d.0 v), record {
-    factor = (is_field k).inverse (coef_at k v t);
-    monomial = d.0;
-    lead = lead;
-    monic = (scalars k).mul_comm _ _ ∙ (is_field k).mul_inverse _ lead.there;
-    reaches = d.1;
-    is = refl;
-  })
+  multiple_exists v t l lead d = (
+    (vectors k).◌·◌ ((is_field k).inverse (coef_at k v t)) (shift k d.0 v),
+    record {
+      factor = (is_field k).inverse (coef_at k v t);
+      monomial = d.0;
+      lead = lead;
+      monic = (scalars k).mul_comm _ _ ∙ (is_field k).mul_inverse _ lead.there;
+      reaches = d.1;
+      is = refl;
+    },
+  )
 
   module _ (a b v : Vect S.field) (s : IsSVector S a b v) where
     abbrev common : Key

@@ -2,12 +2,11 @@
 use Rattle.std.proofs.Common.{◌≡◌, ◌⊎◌, inl, inr, ℕ, ◌+◌, List, [], ◌∷◌, ◌++◌, sym, ap, ap₂, ◌∙◌, refl, subst}
 use Rattle.std.specs.declared.cmp.Ordering.TheVariants.{Less}
 use native.Mathlib.Decide.{ℕ_discrete}
-use Rattle.alg_core.specs.RingLaws as rings
 use Rattle.alg_core.specs.ModuleLaws as modules
-use Rattle.alg_core.specs.Fields.{FieldOn, Scalar, scalars, is_field}
-use Rattle.alg_core.specs.Monomials.{Mon, monomials, divides_dec, Divides}
+use Rattle.alg_core.specs.Fields.{Scalar, scalars, is_field}
+use Rattle.alg_core.specs.Monomials.{Mon, monomials}
 use Rattle.alg_core.specs.Keys.{Key, key_same, times_key, times_key_mul, times_key_product}
-use Rattle.alg_core.specs.KeyOrders.{OrderOn, Trichotomy, trichotomy, less_transitive}
+use Rattle.alg_core.specs.KeyOrders.{Trichotomy, trichotomy, less_transitive}
 use Rattle.alg_core.specs.Leads.{has_lead, HasLead}
 use Rattle.alg_core.specs.Lists.{In}
 use Rattle.alg_core.specs.Spaces.{SpaceOver}
@@ -15,17 +14,16 @@ use Rattle.alg_core.specs.SpaceOrder.{key_order, key_kept}
 use Rattle.alg_core.specs.SpaceGrading.{weight, degree, degree_times_key}
 use Rattle.alg_core.specs.Vectors.{Vect, vectors, coef_at, plus, zero_vector, shift}
 use Rattle.alg_core.proofs.Members.{in_cases}
-use Rattle.alg_core.proofs.VectorLaws.{plus_assoc, plus_zero, zero_plus, coef_at_zero, shift_linear, shift_plus, shift_zero_vector}
+use Rattle.alg_core.proofs.VectorLaws.{plus_assoc, plus_zero, zero_plus, shift_linear, shift_plus, shift_zero_vector}
 use Rattle.poly_module.specs.Signs.{minus}
 use Rattle.poly_module.specs.Polynomials.{single_vector, product}
 use Rattle.poly_module.specs.Products.{shift_product, product_assoc, product_single}
-use Rattle.poly_module.specs.Parts.{Supp, supp_zero, supp_plus, supp_act, supp_weaken}
+use Rattle.poly_module.specs.Parts.{Supp, supp_zero, supp_plus, supp_act}
 use Rattle.poly_module.specs.Degrees.{IsHomogeneous, part, graded_part_plus, graded_part_zero, graded_part_all, graded_part_other}
 use Rattle.poly_module.specs.Forms.{homogeneous_shift}
 use Rattle.poly_module.specs.Modules.{LeadBy, InModule, summands}
 use Rattle.poly_module.proofs.ModuleElements.{summands_in_module}
-use Rattle.poly_module.proofs.EchelonLists.{coef_at_act}
-use Rattle.poly_module.proofs.LeadLaws.{coef_shift, coef_shift_outside, lead_shift, lead_greatest}
+use Rattle.poly_module.proofs.LeadLaws.{lead_shift, lead_greatest}
 use Rattle.module_groebner.specs.Remainders.{EachLead, IsSum, IsSumBelow, IsSumUpTo}
 
 module _ {E : Type 0} (S : SpaceOver E) where

@@ -16,7 +16,7 @@
 --   TreatsGenerator S c d     from c to d one of these generators was treated: it lies in the module of the members of d, is
 --                             no more to treat, and all else still is
 --   TreatsPair S c d          from c to d one of these pairs was treated, is no more to treat, and all else still is
-use Rattle.std.specs.Prelude.{◌≡◌, ◌↔◌, ◌⊎◌, ◌<◌, ◌≤◌, ◌+◌, ℕ, List, [], ◌∷◌, ◌++◌, All, Contains, map, length, slice_index_or}
+use Rattle.std.specs.Prelude.{◌≡◌, ◌↔◌, ◌⊎◌, ◌<◌, ◌≤◌, ℕ, List, [], ◌∷◌, ◌++◌, All, Contains, map, length, slice_index_or}
 use Rattle.std.specs.List.Sorted.{IsPermutation}
 use Rattle.alg_core.specs.Fields.{FieldOn}
 use Rattle.alg_core.specs.Vectors.{Entry, Vect, vec}

@@ -4,5 +4,6 @@ pub mod SVectors
 pub mod BasisBounds
 pub mod Progress
 pub mod Completions
+pub mod Eliminations
 pub mod Reductions
 pub mod Items

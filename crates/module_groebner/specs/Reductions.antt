@@ -1,9 +1,9 @@
 -- One step of division.
 --
 --   IsReduction S v g w     w is v less a multiple of g, by a scalar and a monomial, that cancels the lead of v
-use Rattle.std.specs.Prelude.{◌≡◌, ℕ}
+use Rattle.std.specs.Prelude.{◌≡◌}
 use Rattle.std.specs.declared.cmp.Ordering.TheVariants.{Less}
-use Rattle.alg_core.specs.Fields.{Scalar, scalars}
+use Rattle.alg_core.specs.Fields.{Scalar}
 use Rattle.alg_core.specs.Monomials.{Mon}
 use Rattle.alg_core.specs.Keys.{Key, times_key}
 use Rattle.alg_core.specs.Vectors.{Vect, vectors, plus, shift}

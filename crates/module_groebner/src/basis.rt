@@ -8,6 +8,7 @@ ghost use Rattle.module_groebner.specs.HomogeneousLists.{degree_limit, cap_limit
 ghost use Rattle.module_groebner.specs.BasisBounds.{NothingAbove, IsBasisBound};
 
 use crate::bound::{BasisFault, Which};
+use crate::completion::{Completion, Step};
 use alg_core::{Field, Mono, Space, TermOrder};
 use poly_module::Vector;
 use std::alloc::Global;
@@ -39,5 +40,16 @@ pub fn reduced_basis<F: Field, O: TermOrder>(
         (b : BasisBound F.Elem) → result ≡ Err (BasisFault.Above b)
         → IsBasisBound S U cap Which.Ideal b }
 {
-    Err(BasisFault::Memory)
+    let mut completion = Completion::new(alloc, space, gens, cap)?;
+    loop {
+        match completion.advance(space)? {
+            Step::Finished => break,
+            Step::Above(bound) => return Err(BasisFault::Above(bound)),
+            Step::More => {}
+        }
+    }
+    match completion.finish(space) {
+        Ok(basis) => Ok(basis),
+        Err(_) => Err(BasisFault::Memory),
+    }
 }

@@ -1,7 +1,7 @@
-use Rattle.std.proofs.Common.{◌≡◌, ℕ, ap, ◌+◌, ◌-◌, ◌∷◌, ◌<◌, ◌≤◌, length, take, drop, refl, sym, subst, ◌∙◌, arith}
+use Rattle.std.proofs.Common.{◌≡◌, ℕ, ap, ◌+◌, ◌∷◌, ◌<◌, ◌≤◌, length, drop, refl, sym, subst, arith}
 use Rattle.std.proofs.lemmas.List.{drop_all}
 use Rattle.alg_core.specs.Fields.{scalar}
-use Rattle.alg_core.specs.Keys.{Key, key}
+use Rattle.alg_core.specs.Keys.{key}
 use Rattle.alg_core.specs.Spaces.{over, place, entries}
 use Rattle.alg_core.specs.SpaceOrder.{key_order}
 use Rattle.alg_core.specs.Vectors.{coef_at}
@@ -11,7 +11,7 @@ use Rattle.poly_module.specs.SpaceVectors.{vector_of, vectors_of, IsVector}
 use Rattle.poly_module.proofs.MergeSteps.{drop_at}
 use Rattle.module_groebner.specs.Reductions.{IsReduction}
 use Rattle.module_groebner.specs.Remainders.{IsRemainder}
-use Rattle.module_groebner.proofs.DivisionSteps.{State, starts, at_top, sliced, left_fits, top_term, top_lead, top_value, moves, reduces, ends, size, smaller_moved, smaller_reduced, member_has, member_divides, listed_at}
+use Rattle.module_groebner.proofs.DivisionSteps.{starts, at_top, sliced, left_fits, top_term, top_lead, top_value, moves, reduces, ends, size, smaller_moved, smaller_reduced, member_has, member_divides, listed_at}
 use Rattle.module_groebner.proofs.division.divide.Goals as goal
 
 pub steps-init : goal.steps-init
@@ -122,8 +122,8 @@ steps-smaller g c =
     let hom = member_has S (λ m. m) (λ u. (d : ℕ) × IsHomogeneous S d u) c.args.list.now c.in-Some.i c.index-list-i.result c.in-Some.ensures.within c.index-list-i.is c.requires.homogeneous in
     subst (λ l. size S (entries (λ m. m) left) < size S (entries (λ m. m) l)) (sym (drop_at rest c.steps.start top test c.index-top.ensures))
     (smaller_reduced S (λ m. m) v vs c.requires.positive.weights c.requires.degree c.steps.done.items (drop (c.steps.start + 1) rest) left top c.in_ok-rest-in-Some.ensures.fits
-      (reduces S (λ m. m) v vs c.steps.done.items (drop (c.steps.start + 1) rest) left top c.in-Some.i g hom.0 (listed_at S (λ m. m) c.args.list.now c.in-Some.i c.index-list-i.result c.in-Some.ensures.within c.index-list-i.is) hom.1
-        (subst (λ l. IsReduction S (vector_of S (λ m. m) l) g (vector_of S (λ m. m) left)) e c.in_ok-rest-in-Some.ensures.step) c.in_ok-rest-in-Some.ensures.fits s))
+    (reduces S (λ m. m) v vs c.steps.done.items (drop (c.steps.start + 1) rest) left top c.in-Some.i g hom.0 (listed_at S (λ m. m) c.args.list.now c.in-Some.i c.index-list-i.result c.in-Some.ensures.within c.index-list-i.is) hom.1
+    (subst (λ l. IsReduction S (vector_of S (λ m. m) l) g (vector_of S (λ m. m) left)) e c.in_ok-rest-in-Some.ensures.step) c.in_ok-rest-in-Some.ensures.fits s))
 
 pub steps-preserved : goal.steps-preserved
 steps-preserved g c =
@@ -139,7 +139,7 @@ steps-preserved g c =
     let g = vector_of S (λ m. m) c.index-list-i.result in
     let hom = member_has S (λ m. m) (λ u. (d : ℕ) × IsHomogeneous S d u) c.args.list.now c.in-Some.i c.index-list-i.result c.in-Some.ensures.within c.index-list-i.is c.requires.homogeneous in
     (reduces S (λ m. m) v vs c.steps.done.items (drop (c.steps.start + 1) rest) left top c.in-Some.i g hom.0 (listed_at S (λ m. m) c.args.list.now c.in-Some.i c.index-list-i.result c.in-Some.ensures.within c.index-list-i.is) hom.1
-      (subst (λ l. IsReduction S (vector_of S (λ m. m) l) g (vector_of S (λ m. m) left)) e c.in_ok-rest-in-Some.ensures.step) c.in_ok-rest-in-Some.ensures.fits s).0
+    (subst (λ l. IsReduction S (vector_of S (λ m. m) l) g (vector_of S (λ m. m) left)) e c.in_ok-rest-in-Some.ensures.step) c.in_ok-rest-in-Some.ensures.fits s).0
 
 pub returns-clause-remainder : goal.returns-clause-remainder
 returns-clause-remainder g c =

@@ -1,10 +1,8 @@
-use Rattle.std.proofs.Common.{◌≡◌, ◌<◌, length, sym, subst, refl, arith}
+use Rattle.std.proofs.Common.{sym, subst, refl, arith}
 use Rattle.std.specs.Prelude.{IsNone}
-use Rattle.alg_core.specs.Keys.{Key, key, KeyDivides}
+use Rattle.alg_core.specs.Keys.{key, KeyDivides}
 use Rattle.alg_core.specs.Spaces.{over, place}
-use Rattle.alg_core.specs.SpaceOrder.{key_order}
-use Rattle.poly_module.specs.Modules.{LeadBy, listed}
-use Rattle.poly_module.specs.SpaceVectors.{vector_of, vectors_of}
+use Rattle.poly_module.specs.SpaceVectors.{vector_of}
 use Rattle.module_groebner.proofs.DivisionSteps.{found, passed, nothing_found}
 use Rattle.module_groebner.proofs.ReductionSteps.{same_lead, lead_not_zero, not_both}
 use Rattle.module_groebner.proofs.division.divisor.Goals as goal
@@ -21,7 +19,7 @@ loop-i-preserved g c =
     let t = key (place (λ m. m) c.args.at.now) in
     passed S (λ m. m) c.args.list.now c.loop-i.i c.index-list-i.result t c.loop-i-test.true c.index-list-i.is
     (elim c.match-lead.branch [
-      in-Some+else-divides w ↦ λ s l d. not_both _ (w.divides.ensures.is.1 (subst (λ x. KeyDivides x t) (same_lead S (vector_of S (λ m. m) c.index-list-i.result) _ _ l w.in-Some.ensures.lead) d)) w.if-divides.false
+      | in-Some+else-divides w ↦ λ s l d. not_both _ (w.divides.ensures.is.1 (subst (λ x. KeyDivides x t) (same_lead S (vector_of S (λ m. m) c.index-list-i.result) _ _ l w.in-Some.ensures.lead) d)) w.if-divides.false
       | in_default w ↦ λ s l d. lead_not_zero S (vector_of S (λ m. m) c.index-list-i.result) s l (c.lead.ensures.none.0 (subst IsNone (sym w.in_default.is) refl))
     ])
     c.loop-i.invariant

@@ -1,4 +1,4 @@
-use Rattle.std.proofs.Common.{◌≡◌, ◌<◌, ℕ}
+use Rattle.std.proofs.Common.{◌<◌, ℕ}
 use Rattle.alg_core.specs.Keys.{Key, key, KeyDivides}
 use Rattle.alg_core.specs.Spaces.{over, place}
 use Rattle.alg_core.specs.SpaceOrder.{key_order}

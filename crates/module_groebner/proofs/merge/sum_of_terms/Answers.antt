@@ -1,5 +1,5 @@
-use Rattle.std.proofs.Common.{◌≡◌, ◌≢◌, subst, sym, ap, ◌∙◌, refl, arith}
-use Rattle.alg_core.specs.Spaces.{over, entries, Fits}
+use Rattle.std.proofs.Common.{◌≡◌, ◌≢◌, sym, ap, ◌∙◌, refl, arith}
+use Rattle.alg_core.specs.Spaces.{over}
 use Rattle.poly_module.proofs.EntryLists.{entry_at}
 use Rattle.poly_module.proofs.MergeSteps.{ne_means, eq_means}
 use Rattle.module_groebner.proofs.MergeSteps.{begins, greater_step, less_step, kept_step, gone_step, left_step, right_step, finished}

@@ -1,6 +1,6 @@
-use Rattle.std.proofs.Common.{◌≡◌, ap, subst, ◌∙◌}
+use Rattle.std.proofs.Common.{◌≡◌, subst, ◌∙◌}
 use Rattle.alg_core.specs.Fields.{Has}
-use Rattle.alg_core.specs.Keys.{Key, key, KeyDivides}
+use Rattle.alg_core.specs.Keys.{key, KeyDivides}
 use Rattle.alg_core.specs.Monomials.{mono}
 use Rattle.alg_core.specs.Spaces.{over, place}
 use Rattle.poly_module.specs.SpaceVectors.{vector_of}

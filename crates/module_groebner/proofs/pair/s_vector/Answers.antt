@@ -1,13 +1,11 @@
 use Rattle.std.proofs.Common.{◌≡◌, ap, sym, subst, ◌∙◌, arith}
-use Rattle.alg_core.specs.Keys.{Key, key, times_key, KeyDivides}
-use Rattle.alg_core.specs.Monomials.{Mon}
-use Rattle.alg_core.specs.SpaceGrading.{weight}
+use Rattle.alg_core.specs.Keys.{key, times_key, KeyDivides}
 use Rattle.alg_core.specs.Spaces.{over, place}
 use Rattle.alg_core.proofs.KeyMultiples.{key_lcm_left, key_lcm_right}
 use Rattle.poly_module.specs.SpaceVectors.{vector_of}
 use Rattle.module_groebner.specs.HomogeneousLists.{cap_limit}
 use Rattle.module_groebner.proofs.ReductionSteps.{lead_not_zero, same_lead, bounded_lead}
-use Rattle.module_groebner.proofs.PairSteps.{key_position, same_position, lcm_place, left_low, right_low, s_vector_is}
+use Rattle.module_groebner.proofs.PairSteps.{same_position, lcm_place, left_low, right_low, s_vector_is}
 use Rattle.module_groebner.proofs.pair.s_vector.Goals as goal
 
 pub leading_term-s-requires-clause-not_zero : goal.leading_term-s-requires-clause-not_zero
