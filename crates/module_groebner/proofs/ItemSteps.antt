@@ -2,12 +2,14 @@
 use Rattle.std.proofs.Common.{◌≡◌, ◌⊎◌, inl, inr, Some, None, ◌<◌, ◌≤◌, ◌+◌, ℕ, zero, suc, List, [], ◌∷◌, length, get_or, sym, ap, ◌∙◌, refl, subst, arith}
 use Rattle.std.specs.Prelude.{◌↔◌, Option, IsSome, IsNone, IfSome, All}
 use native.Mathlib.Decide.{ℕ_discrete}
+use Rattle.alg_core.specs.ExponentLists.{lcm}
+use Rattle.alg_core.specs.KeyLists.{place_degree}
 use Rattle.alg_core.specs.Vectors.{Entry}
 use Rattle.module_groebner.specs.declared.completion.Item.{Item}
 use Rattle.module_groebner.specs.declared.completion.Item.TheVariants.{Generator, Pair}
 use Rattle.module_groebner.specs.declared.completion.Candidate.{Candidate}
-use Rattle.module_groebner.specs.Progress.{Progress, IsLeast, IsDone, generator_degree, pair_degree}
-use Rattle.module_groebner.specs.Items.{IsWithin, item_degree, IsCurrent}
+use Rattle.module_groebner.specs.Progress.{Progress, lead_place, IsLeast, IsDone, generator_degree, pair_degree}
+use Rattle.module_groebner.specs.Items.{first_degree, IsWithin, item_degree, IsCurrent}
 
 module _ {E : Type 0} (c : Progress E) where
   -- the degree is at most that of the first n generators and the first m pairs
@@ -121,3 +123,17 @@ module _ {E : Type 0} (c : Progress E) where
       empty : {A : Type 0} (xs : List A) → length xs ≤ 0 → xs ≡ []
       empty [] h = refl
       empty (x ∷ xs) h = absurd (omega arith)
+
+  -- the degrees that the search computes
+  pub generator_degree_is : (ws ss : List ℕ) → c.weights ≡ ws → c.shifts ≡ ss → (es : List (Entry E)) → first_degree ws ss es ≡ generator_degree c es
+  generator_degree_is ws ss p q [] = refl
+  generator_degree_is ws ss p q (e ∷ es) = ap (λ l. place_degree l ss e.0) (sym p) ∙ ap (λ l. place_degree c.weights l e.0) (sym q)
+
+  pub pair_degree_is : (ws ss : List ℕ) → c.weights ≡ ws → c.shifts ≡ ss → (p : ℕ × ℕ) (x y : List (Entry E)) → get_or c.members p.0 [] ≡ x → get_or c.members p.1 [] ≡ y
+      → place_degree ws ss ((lead_place x).0, lcm (lead_place x).1 (lead_place y).1) ≡ pair_degree c p
+  unfolding pair_degree
+  pair_degree_is ws ss pw ps p x y ex ey =
+      ap (λ l. place_degree l ss ((lead_place x).0, lcm (lead_place x).1 (lead_place y).1)) (sym pw)
+      ∙ ap (λ l. place_degree c.weights l ((lead_place x).0, lcm (lead_place x).1 (lead_place y).1)) (sym ps)
+      ∙ ap (λ z. place_degree c.weights c.shifts ((lead_place z).0, lcm (lead_place z).1 (lead_place y).1)) (sym ex)
+      ∙ ap (λ z. place_degree c.weights c.shifts ((lead_place (get_or c.members p.0 [])).0, lcm (lead_place (get_or c.members p.0 [])).1 (lead_place z).1)) (sym ey)
