@@ -179,3 +179,32 @@ pairs-preserved g c =
       (member_entries S (λ m. m) c.requires.positive.weights q c.requires.stands gs ms eg em p.0 c.index-left.result.now first c.index-left.ensures) (member_entries S (λ m. m) c.requires.positive.weights q c.requires.stands gs ms eg em p.1 c.index-right.result.now at.0.within c.index-right.ensures)
       ∙ ap (pair_degree q) (sym at.1))
     c.lesser-best-in-pairs.ensures.some c.lesser-best-in-pairs.ensures.one c.lesser-best-in-pairs.ensures.new c.lesser-best-in-pairs.ensures.old
+
+pub returns-in-Some-clause-current : goal.returns-in-Some-clause-current
+returns-in-Some-clause-current g c =
+    let S = over g.F.Field.field g.O.TermOrder.order c.args.space.now in
+    let q = c.args.self.now in
+    let gs = c.self.inside.generators.items in
+    let ms = c.self.inside.members.items in
+    let eg : map (entries (λ m. m)) gs ≡ q.generators = ap (λ r. r.generators) c.self.view_is in
+    let em : map (entries (λ m. m)) ms ≡ q.members = ap (λ r. r.members) c.self.view_is in
+    let ep : c.self.inside.pairs.items ≡ q.pairs = ap (λ r. r.pairs) c.self.view_is in
+    let n = length_map (entries (λ m. m)) gs in
+    let e1 = ap length eg in
+    let e2 = ap length ep in
+    best_is_current q (length q.generators) c.pairs.i _ c.in-Some.candidate (omega arith) (omega arith) c.pairs.invariant c.in-Some.is
+
+pub returns-in-Some-clause-none : goal.returns-in-Some-clause-none
+returns-in-Some-clause-none g c =
+    let S = over g.F.Field.field g.O.TermOrder.order c.args.space.now in
+    let q = c.args.self.now in
+    let gs = c.self.inside.generators.items in
+    let ms = c.self.inside.members.items in
+    let eg : map (entries (λ m. m)) gs ≡ q.generators = ap (λ r. r.generators) c.self.view_is in
+    let em : map (entries (λ m. m)) ms ≡ q.members = ap (λ r. r.members) c.self.view_is in
+    let ep : c.self.inside.pairs.items ≡ q.pairs = ap (λ r. r.pairs) c.self.view_is in
+    let n = length_map (entries (λ m. m)) gs in
+    let e1 = ap length eg in
+    let e2 = ap length ep in
+    let here = best_is_current q (length q.generators) c.pairs.i _ c.in-Some.candidate (omega arith) (omega arith) c.pairs.invariant c.in-Some.is in
+    (λ h. absurd cc, λ d. absurd (current_not_done q c.in-Some.candidate.item here d))
