@@ -3,6 +3,7 @@ pub mod Remainders
 pub mod SVectors
 pub mod DegreeCriterion
 pub mod PairCriterion
+pub mod PairLists
 pub mod Families
 pub mod Completions
 pub mod Progresses
