@@ -25,6 +25,10 @@ module _ {E M : Type 0} (exps : M → List ℕ) where
   no_place [] e = refl
   no_place (y ∷ v) e = absurd (omega arith)
 
+  pub has_entries : (v : List (Term E M)) → ¬ (length v ≡ 0) → ¬ (entries exps v ≡ [])
+  has_entries [] n e = n refl
+  has_entries (y ∷ v) n e = absurd cc
+
   module _ (S : SpaceOver E) where
     pub has_terms : (v : List (Term E M)) → ¬ (vector_of S exps v ≡ zero_vector S.field) → 0 < length v
     has_terms [] n = absurd (n (vec_nothing S.field))

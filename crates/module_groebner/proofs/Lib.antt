@@ -4,6 +4,7 @@ pub mod SVectors
 pub mod DegreeCriterion
 pub mod PairCriterion
 pub mod PairLists
+pub mod AppendSteps
 pub mod Families
 pub mod Completions
 pub mod Progresses
