@@ -5,6 +5,8 @@ pub mod DegreeCriterion
 pub mod PairCriterion
 pub mod PairLists
 pub mod AppendSteps
+pub mod TakeSteps
+pub mod AdvanceSteps
 pub mod Families
 pub mod Completions
 pub mod Progresses

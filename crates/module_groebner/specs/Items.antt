@@ -8,7 +8,9 @@
 --   ArePairsWith c r ps     ps are the pairs of c, and those of each member with the lead at the position of that of r, and the
 --                           place after the members
 --   IsAppended c d r        from c to d the member r is appended, where r is not 0, with the pairs that it makes
+--   IsTaken c d i           from c to d the item i is taken off what is still to treat
 use Rattle.std.specs.Prelude.{◌≡◌, ◌<◌, ◌≤◌, ℕ, List, [], ◌∷◌, ◌++◌, All, Contains, length, slice_index_or}
+use Rattle.std.specs.List.Sorted.{IsPermutation}
 use Rattle.alg_core.specs.KeyLists.{place_degree}
 use Rattle.alg_core.specs.Vectors.{Entry, Vect, vec}
 use Rattle.alg_core.specs.Spaces.{SpaceOver}
@@ -61,6 +63,19 @@ module _ {E : Type 0} (c : Progress E) where
     pub ends : All (λ p. p.1 ≡ length c.members) new_pairs
     pub every : (p : ℕ × ℕ) → IsPair d p → p.1 ≡ length c.members → Contains new_pairs p
     pub few : length new_pairs ≤ length c.members
+
+module _ {E : Type 0} (c d : Progress E) where
+  -- the other items are still there
+  abbrev pub IsRest : Item → Type 0
+  IsRest (Generator i) = IsPermutation c.generators (slice_index_or c.generators i [] ∷ d.generators) × (d.pairs ≡ c.pairs)
+  IsRest (Pair i) = IsPermutation c.pairs (slice_index_or c.pairs i (0, 0) ∷ d.pairs) × (d.generators ≡ c.generators)
+
+  pub record IsTaken (i : Item) : Type 0 where
+    pub weights : d.weights ≡ c.weights
+    pub shifts : d.shifts ≡ c.shifts
+    pub cap : d.cap ≡ c.cap
+    pub members : d.members ≡ c.members
+    pub rest : IsRest i
 
 abbrev pub IsVectorOfItem : {E : Type 0} (S : SpaceOver E) → Progress E → Item → Vect S.field → Type 0
 IsVectorOfItem S c (Generator i) v = vec S.field (slice_index_or c.generators i []) ≡ v

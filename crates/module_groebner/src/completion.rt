@@ -1,16 +1,17 @@
-ghost use Rattle.std.specs.Prelude.{◌≡◌, ◌↔◌, ◌⊎◌, ◌<◌, ◌≤◌, [], Ok, Some, IsNone, IsSome, IfSome, IfOk, IfErr, OnOk, OnErr, map};
+ghost use Rattle.std.specs.Prelude.{ℕ, ◌≡◌, ◌↔◌, ◌⊎◌, ◌<◌, ◌≤◌, [], Ok, Some, IsNone, IsSome, IfSome, IfOk, IfErr, OnOk, OnErr, map};
 ghost use Rattle.std.specs.List.Sorted.{IsPermutation};
 ghost use Rattle.alg_core.specs.Spaces.{over, entries};
-ghost use Rattle.alg_core.specs.Vectors.{Vect};
+ghost use Rattle.alg_core.specs.Vectors.{Vect, zero_vector};
+ghost use Rattle.poly_module.specs.Degrees.{IsDegree};
 ghost use Rattle.poly_module.specs.Modules.{InModule, listed};
 ghost use Rattle.poly_module.specs.ReducedLists.{IsReducedBasis};
-ghost use Rattle.poly_module.specs.SpaceVectors.{IsPositive, IsVector, AreVectors, vector_of, vectors_of};
+ghost use Rattle.poly_module.specs.SpaceVectors.{IsPositive, IsVector, AreVectors, IsUpTo, vector_of, vectors_of};
 ghost use Rattle.module_groebner.specs.declared.bound.BasisBound.{BasisBound};
 ghost use Rattle.module_groebner.specs.HomogeneousLists.{degree_limit, cap_limit, AreHomogeneousUpTo};
 ghost use Rattle.module_groebner.specs.BasisBounds.{NothingAbove};
 ghost use Rattle.module_groebner.specs.Remainders.{IsRemainder, KeepsDegrees};
 ghost use Rattle.module_groebner.specs.Progress.{IsDone, IsUnchanged, left};
-ghost use Rattle.module_groebner.specs.Items.{IsCurrent, IsVectorOfItem, ArePairsWith, IsAppended};
+ghost use Rattle.module_groebner.specs.Items.{IsWithin, IsCurrent, IsVectorOfItem, ArePairsWith, IsAppended, IsTaken};
 ghost use Rattle.module_groebner.specs.Completions.{SameModule, generated, StandsOver, TreatsGenerator, TreatsPair, Extends, IsOver, members};
 
 use crate::bound::{BasisBound, Which};
@@ -60,6 +61,31 @@ fn lesser(best: Option<Candidate>, item: Item, degree: u128) -> Option<Candidate
     match best {
         Some(old) if old.degree <= degree => Some(old),
         _ => Some(Candidate { item, degree }),
+    }
+}
+
+/// The degree of the vector, where it is over the cap.
+fn degree_over<F: Field, O: TermOrder>(
+    space: &Space<F, O>,
+    v: &Vector<F::Elem, Mono>,
+    cap: u32,
+) -> Option<u64>
+    requires vector { IsVector (over F.field O.order space.now) (λ m. m) v.now }
+    requires small { let S = over F.field O.order space.now in IsUpTo S degree_limit (vector_of S (λ m. m) v.now) }
+    ensures over { let S = over F.field O.order space.now in
+        IfSome result (λ d. IsDegree S (vector_of S (λ m. m) v.now) d × (cap < d)) }
+    ensures low { let S = over F.field O.order space.now in let u = vector_of S (λ m. m) v.now in
+        IsNone result → (u ≡ zero_vector S.field) ⊎ ((d : ℕ) × IsDegree S u d × (d ≤ cap)) }
+{
+    match degree(space, v) {
+        None => None,
+        Some(d) => {
+            if d > u64::from(cap) {
+                Some(d)
+            } else {
+                None
+            }
+        }
     }
 }
 
@@ -182,6 +208,21 @@ impl<E: Copy> Completion<E> {
         Ok(())
     }
 
+    /// Takes the item off what is still to treat.
+    fn take(&mut self, item: Item)
+        requires within { IsWithin self.old item }
+        ensures taken { IsTaken self.old self.new item }
+    {
+        match item {
+            Item::Generator(i) => {
+                let _ = self.generators.swap_remove(i);
+            }
+            Item::Pair(i) => {
+                let _ = self.pairs.swap_remove(i);
+            }
+        }
+    }
+
     /// A completion of the module of the generators, which are homogeneous, up to the cap: it has no
     /// member yet, and all generators are still to treat.
     pub fn new<F: Field<Elem = E>, O: TermOrder>(
@@ -247,9 +288,7 @@ impl<E: Copy> Completion<E> {
             return Ok(Step::Finished);
         };
         let remainder = self.remainder(space, item)?;
-        if let Some(d) = degree(space, &remainder)
-            && d > u64::from(self.cap)
-        {
+        if let Some(d) = degree_over(space, &remainder, self.cap) {
             return Ok(Step::Above(BasisBound {
                 vector: remainder,
                 degree: d,
@@ -257,14 +296,7 @@ impl<E: Copy> Completion<E> {
             }));
         }
         self.append(remainder)?;
-        match item {
-            Item::Generator(i) => {
-                let _ = self.generators.swap_remove(i);
-            }
-            Item::Pair(i) => {
-                let _ = self.pairs.swap_remove(i);
-            }
-        }
+        self.take(item);
         Ok(Step::More)
     }
 
