@@ -6,6 +6,7 @@ pub mod PairCriterion
 pub mod PairLists
 pub mod AppendSteps
 pub mod TakeSteps
+pub mod NewSteps
 pub mod AdvanceSteps
 pub mod Families
 pub mod Completions
