@@ -1,9 +1,8 @@
 -- One step of a completion, from its parts: the remainder is appended, and the item taken off what is still to treat.
-use Rattle.std.proofs.Common.{◌≡◌, ◌⊎◌, inl, inr, ◌<◌, ◌≤◌, ◌+◌, ℕ, List, [], ◌∷◌, ◌++◌, length, get_or, sym, ap, ◌∙◌, refl, subst, arith, length-append, append-nil}
-use Rattle.std.specs.Prelude.{All, Contains}
+use Rattle.std.proofs.Common.{◌≡◌, ◌⊎◌, inl, inr, ◌<◌, ◌≤◌, ℕ, List, [], ◌∷◌, ◌++◌, length, get_or, sym, ap, ◌∙◌, refl, subst, arith, length-append, append-nil}
 use Rattle.std.specs.List.Sorted.{IsPermutation}
 use Rattle.std.proofs.lemmas.List.Sorted.{IsPermutation-refl}
-use Rattle.alg_core.specs.Lists.{In, map_in}
+use Rattle.alg_core.specs.Lists.{map_in}
 use Rattle.alg_core.specs.Spaces.{SpaceOver, Fits}
 use Rattle.alg_core.specs.SpaceGrading.{AllPositive}
 use Rattle.alg_core.specs.Vectors.{Entry, Vect, vec, zero_vector}
@@ -74,7 +73,7 @@ module _ {E : Type 0} (S : SpaceOver E) (c : Progress E) where
     member_low : (j : ℕ) → j < length c.members → IsUpTo S cap_limit (members S c j)
     member_low j h t n =
         let low = all_in (IsHomogeneousUpTo S c.cap) (vects S.field c.members) stands.members_homogeneous (members S c j)
-            (listed_in S.field (vects S.field c.members) j (let e = length_map (vec S.field) c.members in omega arith)) in
+        (listed_in S.field (vects S.field c.members) j (let e = length_map (vec S.field) c.members in omega arith)) in
         let a = low.2 t n in let b = low.1 in let d = stands.cap in omega arith
 
     -- the current vector has no degree over the limit

@@ -1,9 +1,8 @@
 -- A new member with the pairs that it makes.
-use Rattle.std.proofs.Common.{◌≡◌, ◌⊎◌, inl, inr, ◌<◌, ◌≤◌, ◌+◌, ℕ, zero, suc, List, [], ◌∷◌, ◌++◌, length, get_or, sym, ap, ◌∙◌, refl, subst, arith, length-append, append-nil}
-use Rattle.std.specs.Prelude.{All, Contains}
+use Rattle.std.proofs.Common.{◌≡◌, ◌<◌, ◌+◌, ℕ, List, [], ◌∷◌, ◌++◌, length, get_or, sym, ap, ◌∙◌, refl, subst, arith, length-append, append-nil}
+use Rattle.std.specs.Prelude.{Contains}
 use Rattle.alg_core.specs.Lists.{In}
 use Rattle.alg_core.specs.Vectors.{Entry}
-use Rattle.alg_core.proofs.Members.{in_contains, contains_in}
 use Rattle.module_groebner.specs.Progress.{Progress, lead_place}
 use Rattle.module_groebner.specs.Completions.{IsPair, member_place}
 use Rattle.module_groebner.specs.Items.{ArePairsWith, IsAppended, new_members}
@@ -54,7 +53,7 @@ module _ {E : Type 0} where
     every p h e =
         let low : p.0 < length c.members = let x = h.rising in omega arith in
         subst (λ n. Contains made.new (p.0, n)) (sym e)
-          (made.every p.0 low (sym (ap (λ z. z.0) (before p.0 low)) ∙ h.position ∙ ap (λ z. z.0) (ap (member_place d) e ∙ last)))
+        (made.every p.0 low (sym (ap (λ z. z.0) (before p.0 low)) ∙ h.position ∙ ap (λ z. z.0) (ap (member_place d) e ∙ last)))
 
     pub appended_new : ¬ (r ≡ []) → d.weights ≡ c.weights → d.shifts ≡ c.shifts → d.cap ≡ c.cap → d.generators ≡ c.generators → d.pairs ≡ ps → IsAppended c d r
     appended_new n w s cap generators pairs = record {

@@ -1,17 +1,17 @@
 -- What a completion holds, against what is seen of it.
-use Rattle.std.proofs.Common.{◌≡◌, ◌⊎◌, inl, inr, ◌<◌, ◌≤◌, ◌+◌, ℕ, zero, suc, List, [], ◌∷◌, map, length, get_or, sym, ap, ap₂, ◌∙◌, refl, subst, arith}
+use Rattle.std.proofs.Common.{◌≡◌, ◌<◌, ◌≤◌, ℕ, zero, suc, List, [], ◌∷◌, map, length, get_or, sym, ap, ◌∙◌, refl, subst, arith}
 use Rattle.std.specs.Prelude.{All}
 use Rattle.alg_core.specs.Keys.{Key, key}
 use Rattle.alg_core.specs.declared.term.Term.{Term}
-use Rattle.alg_core.specs.Spaces.{SpaceOver, entries, Fits, IsPlace}
+use Rattle.alg_core.specs.Spaces.{SpaceOver, entries, Fits}
 use Rattle.alg_core.specs.SpaceOrder.{key_order}
-use Rattle.alg_core.specs.SpaceGrading.{AllPositive, degree}
+use Rattle.alg_core.specs.SpaceGrading.{AllPositive}
 use Rattle.alg_core.specs.Vectors.{Entry, Vect, vec, zero_vector}
 use Rattle.poly_module.specs.Degrees.{IsHomogeneous}
 use Rattle.poly_module.specs.Modules.{LeadBy, listed}
 use Rattle.poly_module.specs.SpaceVectors.{vector_of, vectors_of, IsVector, AreVectors, IsUpTo}
-use Rattle.module_groebner.specs.HomogeneousLists.{degree_limit, cap_limit, IsHomogeneousUpTo, AreHomogeneous, AreHomogeneousUpTo, AreNonzero}
-use Rattle.module_groebner.specs.Progress.{Progress, lead_place}
+use Rattle.module_groebner.specs.HomogeneousLists.{degree_limit, cap_limit, IsHomogeneousUpTo, AreHomogeneous, AreNonzero}
+use Rattle.module_groebner.specs.Progress.{Progress}
 use Rattle.module_groebner.specs.Completions.{vects, members, member_place, IsPair, StandsOver}
 use Rattle.module_groebner.proofs.Families.{length_map, vects_at}
 use Rattle.module_groebner.proofs.CompletionEnds.{member_lead}
@@ -106,8 +106,7 @@ module _ {E M : Type 0} (S : SpaceOver E) (exps : M → List ℕ) where
     pub pair_leads : (p : ℕ × ℕ) (x y : List (Term E M)) → IsPair c p → x ≡ get_or ms p.0 x → y ≡ get_or ms p.1 y
         → (s : Key) × (t : Key) × LeadBy S.field (key_order S) (vector_of S exps x) s × LeadBy S.field (key_order S) (vector_of S exps y) t × (s.0 ≡ t.0)
     pair_leads p x y h ax ay =
-        let first : p.0 < length c.members = let a = h.rising in let b = h.within in omega arith in
-        (
+        let first : p.0 < length c.members = let a = h.rising in let b = h.within in omega arith in (
           key (member_place c p.0),
           key (member_place c p.1),
           subst (λ u. LeadBy S.field (key_order S) u (key (member_place c p.0))) (member_is p.0 x first ax) (member_lead S positive c stands p.0 first).0,

@@ -1,18 +1,17 @@
 -- The degrees of what a completion has still to treat, from the terms of its vectors.
-use Rattle.std.proofs.Common.{◌≡◌, ◌<◌, ◌≤◌, ℕ, List, [], ◌∷◌, length, get_or, sym, ap, ◌∙◌, refl, subst, arith}
+use Rattle.std.proofs.Common.{◌≡◌, ◌<◌, ℕ, List, [], ◌∷◌, length, get_or, sym, ap, ◌∙◌, refl, arith}
 use Rattle.alg_core.specs.CommonMultiples.{common_multiple}
 use Rattle.alg_core.specs.ExponentLists.{lcm}
 use Rattle.alg_core.specs.Keys.{TermPlace, key}
 use Rattle.alg_core.specs.KeyLists.{place_degree}
 use Rattle.alg_core.specs.declared.term.Term.{Term}
-use Rattle.alg_core.specs.Spaces.{SpaceOver, place, entry, entries, IsPlace, IsTerm}
+use Rattle.alg_core.specs.Spaces.{SpaceOver, place, entries, IsPlace}
 use Rattle.alg_core.specs.SpaceGrading.{degree}
-use Rattle.alg_core.specs.Vectors.{vec, zero_vector}
+use Rattle.alg_core.specs.Vectors.{zero_vector}
 use Rattle.alg_core.proofs.KeyLists.{degree_place}
 use Rattle.alg_core.proofs.KeyMultiples.{place_lcm}
 use Rattle.alg_core.proofs.VectorLaws.{vec_nothing}
-use Rattle.poly_module.specs.SpaceVectors.{IsVector, vector_of}
-use Rattle.poly_module.proofs.EntryLists.{entry_at}
+use Rattle.poly_module.specs.SpaceVectors.{vector_of}
 use Rattle.module_groebner.specs.Items.{first_degree}
 use Rattle.module_groebner.specs.Progress.{lead_place}
 

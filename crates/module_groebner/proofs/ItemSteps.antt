@@ -1,6 +1,6 @@
 -- The search for an item of least degree.
 use Rattle.std.proofs.Common.{◌≡◌, ◌⊎◌, inl, inr, Some, None, ◌<◌, ◌≤◌, ◌+◌, ℕ, zero, suc, List, [], ◌∷◌, length, get_or, sym, ap, ◌∙◌, refl, subst, arith}
-use Rattle.std.specs.Prelude.{◌↔◌, Option, IsSome, IsNone, IfSome, All}
+use Rattle.std.specs.Prelude.{Option, IsSome, IfSome}
 use native.Mathlib.Decide.{ℕ_discrete}
 use Rattle.alg_core.specs.ExponentLists.{lcm}
 use Rattle.alg_core.specs.KeyLists.{place_degree}

@@ -1,11 +1,10 @@
 -- A completion that has no member yet, and all generators still to treat.
-use Rattle.std.proofs.Common.{◌≡◌, ◌<◌, ◌≤◌, ◌+◌, ℕ, List, [], ◌∷◌, ◌++◌, map, take, length, get_or, sym, ap, ◌∙◌, refl, subst, arith}
+use Rattle.std.proofs.Common.{◌≡◌, ◌<◌, ◌≤◌, ◌+◌, ℕ, List, [], ◌∷◌, ◌++◌, map, take, length, get_or, sym, ap, ◌∙◌, subst, arith}
 use Rattle.std.specs.Prelude.{All}
 use Rattle.std.proofs.lemmas.List.{take_more, take_all}
 use Rattle.alg_core.specs.declared.term.Term.{Term}
-use Rattle.alg_core.specs.Lists.{In}
 use Rattle.alg_core.specs.Spaces.{SpaceOver, entries, Fits}
-use Rattle.alg_core.specs.Vectors.{Entry, Vect, vec, zero_vector}
+use Rattle.alg_core.specs.Vectors.{zero_vector}
 use Rattle.alg_core.proofs.Members.{from_map}
 use Rattle.poly_module.specs.Modules.{InModule, listed}
 use Rattle.poly_module.specs.SpaceVectors.{IsVector, AreVectors, vectors_of}

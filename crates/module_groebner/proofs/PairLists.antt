@@ -1,13 +1,12 @@
 -- The pairs that a new member makes with those before it.
-use Rattle.std.proofs.Common.{◌≡◌, ◌⊎◌, inl, inr, ◌<◌, ◌≤◌, ◌+◌, ℕ, zero, suc, List, [], ◌∷◌, ◌++◌, length, get_or, sym, ap, ◌∙◌, refl, subst, arith, length-append, append-nil, append_assoc}
-use Rattle.std.specs.Prelude.{All, Contains}
+use Rattle.std.proofs.Common.{◌≡◌, ◌⊎◌, inl, inr, ◌<◌, ◌≤◌, ◌+◌, ℕ, List, [], ◌∷◌, ◌++◌, length, get_or, sym, ap, ◌∙◌, subst, arith, length-append, append-nil, append_assoc}
 use native.Mathlib.Decide.{ℕ_discrete}
 use Rattle.alg_core.specs.Lists.{In, in_left, in_right}
 use Rattle.alg_core.specs.Vectors.{Entry}
-use Rattle.alg_core.proofs.Members.{in_cases, in_contains, contains_in}
+use Rattle.alg_core.proofs.Members.{in_cases, in_contains}
 use Rattle.module_groebner.specs.Progress.{Progress, lead_place}
 use Rattle.module_groebner.specs.Items.{ArePairsWith}
-use Rattle.module_groebner.proofs.Families.{all_in, in_all}
+use Rattle.module_groebner.proofs.Families.{in_all}
 
 module _ {E : Type 0} (c : Progress E) (r : List (Entry E)) where
   -- the lead of the member at this place has the position of that of the new one

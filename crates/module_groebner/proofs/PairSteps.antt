@@ -1,14 +1,14 @@
 -- The S-vector of two vectors: the size of the factors, and what the difference of the two multiples is.
-use Rattle.std.proofs.Common.{◌≡◌, ◌<◌, ◌≤◌, ◌+◌, ℕ, List, length, sym, ap, ap₂, ◌∙◌, refl, subst, arith}
+use Rattle.std.proofs.Common.{◌≡◌, ◌<◌, ◌≤◌, ℕ, List, length, sym, ap, ap₂, ◌∙◌, refl, subst, arith}
 use native.Mathlib.Decide.{dec_le}
-use Rattle.alg_core.specs.Fields.{FieldOn, scalars, is_field}
+use Rattle.alg_core.specs.Fields.{FieldOn}
 use Rattle.alg_core.specs.CommonMultiples.{common_multiple}
 use Rattle.alg_core.specs.Monomials.{Mon, monomials, mono, mon_cancel}
 use Rattle.alg_core.specs.Keys.{TermPlace, Key, key, times_key, KeyDivides}
 use Rattle.alg_core.specs.declared.term.Term.{Term}
 use Rattle.alg_core.specs.Spaces.{SpaceOver, IsPlace}
 use Rattle.alg_core.specs.SpaceOrder.{key_order}
-use Rattle.alg_core.specs.SpaceGrading.{AllPositive, weight, weight_mul, height, degree, degree_times_key}
+use Rattle.alg_core.specs.SpaceGrading.{AllPositive, weight, weight_mul, degree, degree_times_key}
 use Rattle.alg_core.specs.Vectors.{Vect, plus, shift}
 use Rattle.alg_core.proofs.KeyMultiples.{key_lcm_least}
 use Rattle.poly_module.specs.Modules.{LeadBy}

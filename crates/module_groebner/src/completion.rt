@@ -79,13 +79,7 @@ fn degree_over<F: Field, O: TermOrder>(
 {
     match degree(space, v) {
         None => None,
-        Some(d) => {
-            if d > u64::from(cap) {
-                Some(d)
-            } else {
-                None
-            }
-        }
+        Some(d) => { if d > u64::from(cap) { Some(d) } else { None } }
     }
 }
 

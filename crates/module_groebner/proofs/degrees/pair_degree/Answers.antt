@@ -1,4 +1,4 @@
-use Rattle.std.proofs.Common.{◌≡◌, ◌<◌, length, sym, ap, subst, ◌∙◌}
+use Rattle.std.proofs.Common.{◌<◌, length, sym, ap, subst, ◌∙◌}
 use Rattle.alg_core.specs.ExponentLists.{lcm}
 use Rattle.alg_core.specs.KeyLists.{place_degree}
 use Rattle.alg_core.specs.Spaces.{over, place, entry, entries, IsTerm}
@@ -48,6 +48,8 @@ returns g c =
     let right : IsTerm S (entry (λ m. m) c.index-right-0.result) = entry_at S (λ m. m) c.terms-right.result.now 0 _ in_right c.index-right-0.is (subst (IsVector S (λ m. m)) (sym c.terms-right.ensures.is) c.requires.right) in
     let s = sym (first_place (λ m. m) c.terms-left.result.now c.index-left-0.result in_left c.index-left-0.is) ∙ ap (λ l. lead_place (entries (λ m. m) l)) c.terms-left.ensures.is in
     let t = sym (first_place (λ m. m) c.terms-right.result.now c.index-right-0.result in_right c.index-right-0.is) ∙ ap (λ l. lead_place (entries (λ m. m) l)) c.terms-right.ensures.is in
-    record { is = degree_of_pair S (place (λ m. m) c.index-left-0.result.at) (place (λ m. m) c.index-right-0.result.at) _ _ left.place right.place c.in_ok-l.ensures.is c.term_degree.ensures.is
-      ∙ ap (λ p. place_degree S.weights S.shifts (p.0, lcm p.1 (place (λ m. m) c.index-right-0.result.at).1)) s
-      ∙ ap (λ p. place_degree S.weights S.shifts ((lead_place (entries (λ m. m) c.args.a.now)).0, lcm (lead_place (entries (λ m. m) c.args.a.now)).1 p.1)) t }
+    record {
+      is = degree_of_pair S (place (λ m. m) c.index-left-0.result.at) (place (λ m. m) c.index-right-0.result.at) _ _ left.place right.place c.in_ok-l.ensures.is c.term_degree.ensures.is
+          ∙ ap (λ p. place_degree S.weights S.shifts (p.0, lcm p.1 (place (λ m. m) c.index-right-0.result.at).1)) s
+          ∙ ap (λ p. place_degree S.weights S.shifts ((lead_place (entries (λ m. m) c.args.a.now)).0, lcm (lead_place (entries (λ m. m) c.args.a.now)).1 p.1)) t;
+    }

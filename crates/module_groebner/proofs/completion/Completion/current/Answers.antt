@@ -1,9 +1,9 @@
-use Rattle.std.proofs.Common.{◌≡◌, ◌<◌, ◌≤◌, ℕ, List, [], ◌∷◌, map, length, get_or, sym, ap, ◌∙◌, refl, subst, arith}
+use Rattle.std.proofs.Common.{◌≡◌, ◌<◌, map, length, sym, ap, ◌∙◌, refl, subst, arith}
 use Rattle.alg_core.specs.Spaces.{over, entries}
 use Rattle.module_groebner.specs.Progress.{lead_place, generator_degree, pair_degree}
 use Rattle.module_groebner.proofs.Families.{length_map}
 use Rattle.module_groebner.proofs.CompletionSteps.{generator_fits, generator_is, member_fits, member_not_zero, member_entries, pair_at}
-use Rattle.module_groebner.proofs.ItemSteps.{Best, best_start, best_generator, best_pair, best_is_current, best_none_done, current_not_done, generator_degree_is, pair_degree_is}
+use Rattle.module_groebner.proofs.ItemSteps.{Best, best_start, best_generator, best_pair, best_is_current, current_not_done, generator_degree_is, pair_degree_is}
 use Rattle.module_groebner.proofs.completion.Completion.current.Goals as goal
 
 pub generators-init : goal.generators-init
@@ -50,7 +50,7 @@ generators-preserved g c =
     let within : c.generators.i < length q.generators = omega arith in
     best_generator q c.generators.i _ _ c.generator_degree-d.result c.generators.invariant within
     (c.generator_degree-d.ensures.is ∙ generator_degree_is q S.weights S.shifts c.requires.stands.weights c.requires.stands.shifts (entries (λ m. m) c.index-generator.result.now)
-      ∙ ap (generator_degree q) (sym (generator_is S (λ m. m) c.requires.positive.weights q c.requires.stands gs ms eg em c.generators.i c.index-generator.result.now within c.index-generator.ensures)))
+    ∙ ap (generator_degree q) (sym (generator_is S (λ m. m) c.requires.positive.weights q c.requires.stands gs ms eg em c.generators.i c.index-generator.result.now within c.index-generator.ensures)))
     c.lesser-best.ensures.some c.lesser-best.ensures.one c.lesser-best.ensures.new c.lesser-best.ensures.old
 
 pub pairs-init : goal.pairs-init
@@ -176,8 +176,8 @@ pairs-preserved g c =
     let first : p.0 < length q.members = let a = at.0.rising in let b = at.0.within in omega arith in
     best_pair q (length q.generators) c.pairs.i _ _ c.in_ok-d.d c.pairs.invariant within
     (c.in_ok-d.ensures.is ∙ pair_degree_is q S.weights S.shifts c.requires.stands.weights c.requires.stands.shifts p _ _
-      (member_entries S (λ m. m) c.requires.positive.weights q c.requires.stands gs ms eg em p.0 c.index-left.result.now first c.index-left.ensures) (member_entries S (λ m. m) c.requires.positive.weights q c.requires.stands gs ms eg em p.1 c.index-right.result.now at.0.within c.index-right.ensures)
-      ∙ ap (pair_degree q) (sym at.1))
+    (member_entries S (λ m. m) c.requires.positive.weights q c.requires.stands gs ms eg em p.0 c.index-left.result.now first c.index-left.ensures) (member_entries S (λ m. m) c.requires.positive.weights q c.requires.stands gs ms eg em p.1 c.index-right.result.now at.0.within c.index-right.ensures)
+    ∙ ap (pair_degree q) (sym at.1))
     c.lesser-best-in-pairs.ensures.some c.lesser-best-in-pairs.ensures.one c.lesser-best-in-pairs.ensures.new c.lesser-best-in-pairs.ensures.old
 
 pub returns-in-Some-clause-current : goal.returns-in-Some-clause-current

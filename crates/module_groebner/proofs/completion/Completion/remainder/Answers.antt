@@ -1,10 +1,10 @@
-use Rattle.std.proofs.Common.{◌≡◌, ◌<◌, ◌≤◌, ℕ, List, [], ◌∷◌, map, length, get_or, sym, ap, ◌∙◌, refl, subst, arith}
+use Rattle.std.proofs.Common.{◌≡◌, ◌<◌, map, length, sym, ap, ◌∙◌, subst, arith}
 use Rattle.alg_core.specs.Spaces.{over, entries}
-use Rattle.alg_core.specs.Vectors.{Vect, vec}
+use Rattle.alg_core.specs.Vectors.{vec}
 use Rattle.poly_module.specs.Modules.{listed}
 use Rattle.poly_module.specs.SpaceVectors.{vector_of, vectors_of, AreVectors}
 use Rattle.module_groebner.specs.HomogeneousLists.{AreHomogeneous, AreNonzero}
-use Rattle.module_groebner.specs.Completions.{members, IsPair}
+use Rattle.module_groebner.specs.Completions.{members}
 use Rattle.module_groebner.specs.Items.{IsWithin, IsVectorOfItem}
 use Rattle.module_groebner.specs.Remainders.{IsRemainder}
 use Rattle.module_groebner.specs.SVectors.{IsSVector}
@@ -147,9 +147,12 @@ returns-in_ok-r-in-Generator-clause-remainder g c =
     let within : c.in-Generator.i < length q.generators = subst (IsWithin q) c.in-Generator.is c.requires.current.within in
     let v = vector_of S (λ m. m) c.index.result.now in
     let r = vector_of S (λ m. m) c.in_ok-r-in-Generator.r in
-    let same = ap (λ l. listed S.field (vectors_of S (λ m. m) l)) c.deref.ensures.value ∙ all_members S (λ m. m) c.requires.positive.weights q c.requires.stands gs ms eg em in
-    (v, subst (λ i. IsVectorOfItem S q i v) (sym c.in-Generator.is) (ap (vec S.field) (generator_is S (λ m. m) c.requires.positive.weights q c.requires.stands gs ms eg em c.in-Generator.i c.index.result.now within c.index.ensures)),
-      subst (λ h. IsRemainder S h v r) same c.in_ok-r-in-Generator.ensures.remainder, c.in_ok-r-in-Generator.ensures.degrees)
+    let same = ap (λ l. listed S.field (vectors_of S (λ m. m) l)) c.deref.ensures.value ∙ all_members S (λ m. m) c.requires.positive.weights q c.requires.stands gs ms eg em in (
+      v,
+      subst (λ i. IsVectorOfItem S q i v) (sym c.in-Generator.is) (ap (vec S.field) (generator_is S (λ m. m) c.requires.positive.weights q c.requires.stands gs ms eg em c.in-Generator.i c.index.result.now within c.index.ensures)),
+      subst (λ h. IsRemainder S h v r) same c.in_ok-r-in-Generator.ensures.remainder,
+      c.in_ok-r-in-Generator.ensures.degrees,
+    )
 
 pub returns-in_ok-r-in-Pair-clause-remainder : goal.returns-in_ok-r-in-Pair-clause-remainder
 returns-in_ok-r-in-Pair-clause-remainder g c =
@@ -167,7 +170,10 @@ returns-in_ok-r-in-Pair-clause-remainder g c =
     let r = vector_of S (λ m. m) c.in_ok-r-in-Pair.r in
     let same = ap (λ l. listed S.field (vectors_of S (λ m. m) l)) c.deref-in-Pair.ensures.value ∙ all_members S (λ m. m) c.requires.positive.weights q c.requires.stands gs ms eg em in
     let left = member_is S (λ m. m) c.requires.positive.weights q c.requires.stands gs ms eg em p.0 c.index-left.result.now first c.index-left.ensures in
-    let right = member_is S (λ m. m) c.requires.positive.weights q c.requires.stands gs ms eg em p.1 c.index-right.result.now at.0.within c.index-right.ensures in
-    (v, subst (λ i. IsVectorOfItem S q i v) (sym c.in-Pair.is) (subst (λ x. IsSVector S (members S q x.0) (members S q x.1) v) (sym at.1)
-      (subst (λ u. IsSVector S u (members S q p.1) v) (sym left) (subst (λ u. IsSVector S (vector_of S (λ m. m) c.index-left.result.now) u v) (sym right) c.in_ok-v-in-Pair.ensures.is))),
-      subst (λ h. IsRemainder S h v r) same c.in_ok-r-in-Pair.ensures.remainder, c.in_ok-r-in-Pair.ensures.degrees)
+    let right = member_is S (λ m. m) c.requires.positive.weights q c.requires.stands gs ms eg em p.1 c.index-right.result.now at.0.within c.index-right.ensures in (
+      v,
+      subst (λ i. IsVectorOfItem S q i v) (sym c.in-Pair.is) (subst (λ x. IsSVector S (members S q x.0) (members S q x.1) v) (sym at.1)
+          (subst (λ u. IsSVector S u (members S q p.1) v) (sym left) (subst (λ u. IsSVector S (vector_of S (λ m. m) c.index-left.result.now) u v) (sym right) c.in_ok-v-in-Pair.ensures.is))),
+      subst (λ h. IsRemainder S h v r) same c.in_ok-r-in-Pair.ensures.remainder,
+      c.in_ok-r-in-Pair.ensures.degrees,
+    )
