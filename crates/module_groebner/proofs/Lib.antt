@@ -22,3 +22,5 @@ pub mod PairSteps
 pub mod Transports
 pub mod CriterionSteps
 pub mod BasisSteps
+pub mod InterreductionSteps
+pub mod FinishSteps

@@ -11,6 +11,7 @@ ghost use Rattle.module_groebner.specs.Progress.{IsDone, IsUnchanged, left};
 ghost use Rattle.module_groebner.specs.Completions.{SameModule, generated, StandsOver, TreatsGenerator, TreatsPair, Extends, IsOver};
 
 use crate::bound::BasisBound;
+use crate::interreduction::interreduced;
 use alg_core::{Field, Memory, Mono, Space, TermOrder};
 use poly_module::Vector;
 use std::alloc::Global;
@@ -125,7 +126,10 @@ impl<E: Copy> Completion<E> {
         ensures memory { IfErr result (λ c. IsUnchanged self c) }
         ensures stands { IfErr result (StandsOver (over F.field O.order space.now)) }
     {
-        Err(self)
+        match self.reduced(space) {
+            Ok(basis) => Ok(basis),
+            Err(_) => Err(self),
+        }
     }
 
     /// The same list as that of finish; the completion stays as it is.
@@ -144,6 +148,7 @@ impl<E: Copy> Completion<E> {
         ensures within { let S = over F.field O.order space.now in
             IfOk result (λ _. NothingAbove S (InModule S.field (generated S self.now)) self.now.cap) }
     {
-        Err(Memory)
+        let basis = interreduced(self.alloc, space, &self.members)?;
+        Ok(basis)
     }
 }
