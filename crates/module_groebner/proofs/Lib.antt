@@ -30,3 +30,5 @@ pub mod ListLaws
 pub mod Transports
 pub mod CriterionSteps
 pub mod BasisSteps
+pub mod InterreductionSteps
+pub mod FinishSteps

@@ -29,7 +29,7 @@ use Rattle.module_groebner.proofs.Existence.{basis_or_above}
 
 module _ {E : Type 0} (S : SpaceOver E) where
   -- each of a list has a degree
-  each_homogeneous : (vs : List (Vect S.field)) → AreHomogeneous S vs → (w : Vect S.field) → In w vs → (d : ℕ) × IsHomogeneous S d w
+  pub each_homogeneous : (vs : List (Vect S.field)) → AreHomogeneous S vs → (w : Vect S.field) → In w vs → (d : ℕ) × IsHomogeneous S d w
   each_homogeneous vs h = all_in (λ w. (d : ℕ) × IsHomogeneous S d w) vs h
 
   pub family : (vs : List (Vect S.field)) → AreHomogeneous S vs → (i : ℕ) → (d : ℕ) × IsHomogeneous S d (listed S.field vs i)

@@ -31,7 +31,7 @@ module _ {E : Type 0} (S : SpaceOver E) where
   abbrev pub leads : List Row → List Key
   leads l = map (λ e. e.1) l
 
-  itself : (t : Key) → KeyDivides t t
+  pub itself : (t : Key) → KeyDivides t t
   itself t = (monomials.one, times_key_one t)
 
   trans : (s t u : Key) → KeyDivides s t → KeyDivides t u → KeyDivides s u

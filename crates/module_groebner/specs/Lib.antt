@@ -1,3 +1,4 @@
+pub mod Interreductions
 pub mod HomogeneousLists
 pub mod Remainders
 pub mod SVectors

@@ -17,6 +17,7 @@ ghost use Rattle.module_groebner.specs.Completions.{SameModule, generated, Stand
 use crate::bound::{BasisBound, Which};
 use crate::degrees::{generator_degree, lead_position, pair_degree};
 use crate::division::divide;
+use crate::interreduction::interreduced;
 use crate::pair::s_vector;
 use alg_core::{Field, Memory, Mono, Space, TermOrder};
 use poly_module::{Vector, copy, degree};
@@ -313,7 +314,10 @@ impl<E: Copy> Completion<E> {
         ensures memory { IfErr result (λ c. IsUnchanged self c) }
         ensures stands { IfErr result (StandsOver (over F.field O.order space.now)) }
     {
-        Err(self)
+        match self.reduced(space) {
+            Ok(basis) => Ok(basis),
+            Err(_) => Err(self),
+        }
     }
 
     /// The same list as that of finish; the completion stays as it is.
@@ -332,6 +336,7 @@ impl<E: Copy> Completion<E> {
         ensures within { let S = over F.field O.order space.now in
             IfOk result (λ _. NothingAbove S (InModule S.field (generated S self.now)) self.now.cap) }
     {
-        Err(Memory)
+        let basis = interreduced(self.alloc, space, &self.members)?;
+        Ok(basis)
     }
 }

@@ -14,7 +14,7 @@ use poly_module::{Vector, lead};
 use std::alloc::Global;
 
 /// The place of a member of the list whose lead divides the term, from 0, if there is one.
-fn divisor<F: Field, O: TermOrder>(
+pub(crate) fn divisor<F: Field, O: TermOrder>(
     space: &Space<F, O>,
     list: &[Vector<F::Elem, Mono>],
     at: &ModTerm<Mono>,
