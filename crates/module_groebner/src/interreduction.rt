@@ -210,7 +210,8 @@ fn tails_reduced<F: Field, O: TermOrder>(
         IfOk result (λ vs. LeadsFall S.field (key_order S) (vectors_of S (λ m. m) vs.items)) }
     ensures from { let S = over F.field O.order space.now in let of = vectors_of S (λ m. m) in IfOk result (λ vs.
         (n : Vect S.field) → In n (of vs.items)
-        → (i : ℕ) × (i < length members.now) × IsTailReduced S (listed S.field (of members.now)) (listed S.field (of members.now) i) n) }
+        → (i : ℕ) × (i < length members.now)
+        × IsTailReduced S (listed S.field (of members.now)) (listed S.field (of members.now) i) n) }
     ensures leads { let S = over F.field O.order space.now in let of = vectors_of S (λ m. m) in IfOk result (λ vs.
         (i : ℕ) (s : Key) → LeadBy S.field (key_order S) (listed S.field (of members.now) i) s → HasLeadIn S (of vs.items) s) }
 {
