@@ -13,3 +13,4 @@ pub mod LowerLevels
 pub mod Irredundant
 pub mod OverSteps
 pub mod ColumnCalls
+pub mod CombinationSteps

@@ -3,11 +3,13 @@
 #![tactic(auto)]
 
 mod columns;
+mod combination;
 mod degrees;
 mod elimination;
 mod laws;
 mod products;
 mod redundance;
 
+pub use combination::combine;
 pub use laws::kept_lists;
 pub use redundance::first_redundant;
