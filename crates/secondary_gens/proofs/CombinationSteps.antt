@@ -88,7 +88,7 @@ sum_over_field k h e seen fs combination told combinations same named p =
 equal_test : (m n : ℕ) → m ≡ n → (m == n) ≡ true
 equal_test m n e = grind (arith, nat_tests)
 
-in_at : {A : Type 0} (l : List A) (k : ℕ) (d : A) → k < length l → In (get_or l k d) l
+pub in_at : {A : Type 0} (l : List A) (k : ℕ) (d : A) → k < length l → In (get_or l k d) l
 in_at [] k d h = absurd (omega arith)
 in_at (x ∷ l) zero d h = inl refl
 in_at (x ∷ l) (suc k) d h = inr (in_at l k d (omega arith))

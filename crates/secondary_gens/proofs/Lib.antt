@@ -14,3 +14,6 @@ pub mod Irredundant
 pub mod OverSteps
 pub mod ColumnCalls
 pub mod CombinationSteps
+pub mod KeepSteps
+pub mod ChoiceSteps
+pub mod DegreeSearch
