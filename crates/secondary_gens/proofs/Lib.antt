@@ -17,3 +17,4 @@ pub mod CombinationSteps
 pub mod KeepSteps
 pub mod ChoiceSteps
 pub mod DegreeSearch
+pub mod FixedSteps

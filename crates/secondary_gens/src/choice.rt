@@ -85,6 +85,8 @@ pub fn choose<F: Field, O: TermOrder>(
         IfOk result (λ b. IsComplete S.field (length S.weights) gens.now (x theta.now) (x b.items)) }
     ensures irredundant { let S = over F.field O.order space.now in let x = vectors_of S (λ m. m) in
         IfOk result (λ b. IsIrredundant S.field (x theta.now) (x b.items)) }
+    ensures fixed { let S = over F.field O.order space.now in
+        IfOk result (λ b. All (λ p. Invariant S.field gens.now (vector_of S (λ m. m) p)) b.items) }
     ensures rise { IfOk result (λ b. let es = degrees_of b.items in
         (i j : ℕ) → i ≤ j → j < length es → height es i ≤ height es j) }
     ensures degrees { IfOk result (λ b. All (λ p. (p ≢ []) × IsDegreeIn images.now (degree_of p)) b.items) }

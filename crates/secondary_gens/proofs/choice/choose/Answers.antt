@@ -8,6 +8,7 @@ use Rattle.poly_module.specs.Walks.{Keeps}
 use Rattle.secondary_gens.specs.Columns.{AreLevels}
 use Rattle.secondary_gens.specs.Forms.{degree_of, degrees_of, unit_weights}
 use Rattle.secondary_gens.proofs.ChoiceSteps.{Chosen, basis_forms, chosen_past, chosen_more, chosen_within, chosen_complete, chosen_secondaries, chosen_irredundant}
+use Rattle.secondary_gens.proofs.FixedSteps.{secondaries_fixed}
 use Rattle.secondary_gens.proofs.OverSteps.{not_true}
 use Rattle.secondary_gens.proofs.choice.choose.Goals as goal
 use Rattle.secondary_gens.proofs.choice.choose.Goals.{then-has_degree+in_ok-basis+in_ok-keep, else-has_degree}
@@ -82,3 +83,14 @@ returns-clause-irredundant g c =
     let images = c.args.images.now in
     let past : All (λ p. degree_of p < c.loop-d.d) images = λ k p l. let a = c.greatest_degree-d-end.ensures.all k p l in omega (arith, c.loop-d-test.false) in
     chosen_irredundant S gens theta images c.requires.primaries c.requires.images c.requires.fixed c.requires.fixed_images c.requires.generate c.args.max_terms c.loop-d.d c.loop-d.kept.items c.loop-d.invariant.chosen past
+
+pub returns-clause-fixed : goal.returns-clause-fixed
+returns-clause-fixed g c =
+    let S = over g.F.Field.field g.O.TermOrder.order c.args.space.now in
+    let gens = c.args.gens.now in
+    let theta = c.args.theta.now in
+    let images = c.args.images.now in
+    let past : All (λ p. degree_of p < c.loop-d.d) images = λ k p l. let a = c.greatest_degree-d-end.ensures.all k p l in omega (arith, c.loop-d-test.false) in
+    secondaries_fixed S gens (vectors_of S (λ m. m) theta) c.loop-d.kept.items (
+    chosen_secondaries S gens theta images c.requires.primaries c.requires.images c.requires.fixed c.requires.fixed_images c.requires.generate c.args.max_terms c.loop-d.d c.loop-d.kept.items c.loop-d.invariant.chosen past
+    )
