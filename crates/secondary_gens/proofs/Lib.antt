@@ -13,3 +13,8 @@ pub mod LowerLevels
 pub mod Irredundant
 pub mod OverSteps
 pub mod ColumnCalls
+pub mod CombinationSteps
+pub mod KeepSteps
+pub mod ChoiceSteps
+pub mod DegreeSearch
+pub mod FixedSteps

@@ -3,3 +3,4 @@ pub mod Secondaries
 pub mod PrintedCombinations
 pub mod Eliminations
 pub mod Columns
+pub mod Choices

@@ -1,0 +1,12 @@
+use Rattle.std.proofs.Common.{map}
+use Rattle.alg_core.specs.Spaces.{over}
+use Rattle.poly_module.specs.SpaceVectors.{vectors_of}
+use Rattle.secondary_gens.specs.Columns.{AreLevels}
+use Rattle.secondary_gens.specs.Forms.{degrees_of}
+use Rattle.secondary_gens.proofs.KeepSteps.{Keeping}
+use Rattle.secondary_gens.proofs.keeping.keep.Given as goal
+
+abbrev pub invariant-loop-i : goal.invariant-loop-i
+invariant-loop-i g l =
+    let S = over g.F.Field.field g.O.TermOrder.order l.space in
+    Keeping S l.theta l.fn.kept.items l.candidates l.d l.i l.rows.items l.kept.items
