@@ -7,7 +7,7 @@ use Rattle.alg_core.specs.declared.term.Term.{Term}
 use Rattle.poly_module.specs.Polynomials.{product}
 use Rattle.poly_module.specs.Sizes.{HasRoom}
 use Rattle.poly_module.specs.SpaceVectors.{vector_of, vectors_of, IsPoly}
-use Rattle.invariant_space.specs.Columns.{IsImage}
+use Rattle.secondary_gens.specs.Images.{IsImage}
 use Rattle.secondary_gens.specs.Columns.{AreLevels, IsLevel, IsColumnPart, key_of, keys_of}
 use Rattle.secondary_gens.specs.Forms.{degree_of, degrees_of, IsSmallForm}
 use Rattle.secondary_gens.specs.declared.columns.Column.{Column}

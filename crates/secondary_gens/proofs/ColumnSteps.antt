@@ -28,8 +28,8 @@ use Rattle.poly_module.specs.Sizes.{HasRoom}
 use Rattle.poly_module.specs.SpaceVectors.{vector_of, vectors_of, IsPoly, IsVectorOf}
 use Rattle.poly_module.specs.Substitutions.{monomial_value, monomial_value_mono}
 use Rattle.poly_module.proofs.SpaceVectorLaws.{poly_of, poly_given, is_polynomial}
-use Rattle.invariant_space.specs.Columns.{IsImage}
-use Rattle.invariant_space.proofs.Images.{product_small}
+use Rattle.secondary_gens.specs.Images.{IsImage}
+use Rattle.secondary_gens.proofs.FormImages.{product_small}
 use Rattle.secondary_gens.specs.PrintedCombinations.{IsTermBefore}
 use Rattle.secondary_gens.specs.Columns.{turned, mark_order, key_of, keys_of, IsProduct, IsLevel, IsColumnPart, IsColumns}
 use Rattle.secondary_gens.specs.declared.columns.Column.{Column}

@@ -16,8 +16,8 @@ use Rattle.poly_module.specs.SpaceVectors.{vector_of, vectors_of}
 use Rattle.poly_module.proofs.ExponentBounds.{fits_keys}
 use Rattle.poly_module.proofs.FittingKeys.{vec_in_variables}
 use Rattle.invariant_space.specs.InvariantSpaces.{IsOfDegree}
-use Rattle.invariant_space.specs.Columns.{IsImage}
-use Rattle.invariant_space.proofs.MonomialDegrees.{of_exponents}
+use Rattle.secondary_gens.specs.Images.{IsImage}
+use Rattle.secondary_gens.proofs.MonomialDegrees.{of_exponents}
 use Rattle.secondary_gens.specs.Forms.{degree_of, degrees_of, unit_weights, IsSmallForm, IsPositiveForm}
 
 -- the sum of the first exponents

@@ -9,7 +9,7 @@ use Rattle.alg_core.specs.Spaces.{SpaceOver, Fits, IsTerm, entries}
 use Rattle.alg_core.specs.Vectors.{Vect, Entry, vec, zero_vector}
 use Rattle.alg_core.specs.declared.term.Term.{Term}
 use Rattle.alg_core.proofs.VectorLaws.{vec_nothing}
-use Rattle.invariant_space.proofs.MonomialDegrees.{of_exponents}
+use Rattle.secondary_gens.proofs.MonomialDegrees.{of_exponents}
 use Rattle.poly_module.specs.Combinations.{Over}
 use Rattle.poly_module.specs.Echelons.{Spans}
 use Rattle.poly_module.specs.Forms.{IsForm, OfDegree}

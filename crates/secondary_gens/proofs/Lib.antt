@@ -1,3 +1,5 @@
+pub mod MonomialDegrees
+pub mod FormImages
 pub mod Triangular
 pub mod Lists
 pub mod OverInDegree

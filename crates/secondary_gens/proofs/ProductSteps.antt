@@ -29,10 +29,10 @@ use Rattle.poly_module.specs.Products.{ring_product, ring_one}
 use Rattle.poly_module.specs.SpaceVectors.{vector_of, IsVectorOf, IsPolyOf}
 use Rattle.poly_module.specs.Substitutions.{image, monomial_value, monomial_value_mul, monomial_value_mono, monomial_value_one, monomial_value_variable}
 use Rattle.poly_module.proofs.ConstantSteps.{mono_set, mono_zeros, length_zeros}
-use Rattle.invariant_space.specs.Columns.{IsImage}
-use Rattle.invariant_space.specs.Levels.{unit_exponents}
-use Rattle.invariant_space.proofs.Images.{product_small, product_image, one_image}
-use Rattle.invariant_space.proofs.MonomialDegrees.{key_times, length_times, total_times, length_unit, exponents_small, total_constant}
+use Rattle.secondary_gens.specs.Images.{IsImage}
+use Rattle.secondary_gens.specs.Images.{unit_exponents}
+use Rattle.secondary_gens.proofs.FormImages.{product_small, product_image, one_image}
+use Rattle.secondary_gens.proofs.MonomialDegrees.{key_times, length_times, total_times, length_unit, exponents_small, total_constant}
 use Rattle.secondary_gens.specs.Columns.{turned, mark_order, key_of, keys_of, IsProduct, IsLevel, IsPart, AreLevels}
 use Rattle.secondary_gens.specs.declared.columns.Column.{Column}
 use Rattle.secondary_gens.proofs.Sorting.{falls_inserted, in_inserted}

@@ -31,7 +31,7 @@ use Rattle.poly_module.specs.MonomialVariables.{variable}
 use Rattle.poly_module.specs.Polynomials.{vector_ring}
 use Rattle.poly_module.specs.SpaceVectors.{vector_of, IsPoly}
 use Rattle.poly_module.specs.Substitutions.{monomial_value}
-use Rattle.invariant_space.specs.Columns.{IsImage}
+use Rattle.secondary_gens.specs.Images.{IsImage}
 use Rattle.secondary_gens.specs.PrintedCombinations.{IsTermBefore}
 use Rattle.secondary_gens.specs.declared.columns.Column.{Column}
 

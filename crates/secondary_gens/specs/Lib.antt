@@ -1,4 +1,5 @@
 pub mod Forms
+pub mod Images
 pub mod Secondaries
 pub mod PrintedCombinations
 pub mod Eliminations

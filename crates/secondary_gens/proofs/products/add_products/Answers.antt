@@ -3,13 +3,13 @@ use Rattle.std.proofs.lemmas.List.{length-map}
 use Rattle.std.specs.List.{insert}
 use Rattle.alg_core.specs.KeyLists.{inserted}
 use Rattle.poly_module.specs.Modules.{listed}
-use Rattle.invariant_space.specs.Columns.{IsImage}
+use Rattle.secondary_gens.specs.Images.{IsImage}
 use Rattle.alg_core.specs.Spaces.{over}
 use Rattle.alg_core.specs.ExponentLists.{product as list_product, Within}
 use Rattle.poly_module.specs.SpaceVectors.{vectors_of}
 use Rattle.poly_module.proofs.SpaceVectorLaws.{poly_of}
-use Rattle.invariant_space.specs.Levels.{unit_exponents}
-use Rattle.invariant_space.proofs.MonomialDegrees.{length_unit}
+use Rattle.secondary_gens.specs.Images.{unit_exponents}
+use Rattle.secondary_gens.proofs.MonomialDegrees.{length_unit}
 use Rattle.secondary_gens.specs.Columns.{turned, mark_order, key_of, keys_of}
 use Rattle.secondary_gens.specs.Forms.{degree_of, degrees_of}
 use Rattle.secondary_gens.specs.declared.columns.Column.{Column}
