@@ -13,7 +13,7 @@ use Rattle.prime_field.specs.PrimeFields.{gfp, residue_test, listed_positive}
 use Rattle.prime_field.specs.Residues.{neg_mod}
 use Rattle.std.specs.Prelude.{slice_index_or}
 use Rattle.finvar_text.specs.declared.syntax.EntryText.{EntryText}
-use Rattle.finvar_text.specs.Conditions.{value, residue, cells, HasInverse}
+use Rattle.finvar_text.specs.Conditions.{value, residue, cells, IsNonsingularModulo}
 use Rattle.finvar_text.specs.Scripts.{sized_cells, generator, IsInvertible}
 use Rattle.finvar_text.specs.Syntax.{Entry, Matrix}
 use Rattle.finvar_text.specs.Trees.{entry_of, entries_of}
@@ -36,17 +36,17 @@ abbrev Inverse : (p : ℕ) → is_listed p ≡ true → ℕ × ℕ × List ℕ �
 Inverse p listed t = (b : ℕ → ℕ → Scalar (gfp p listed)) × IsInverse (scalars (gfp p listed)) t.0 (λ i. vector (gfp p listed) (slice_index_or (cut t.0 t.1 t.2) i [])) b
 
 -- an inverse over the field is one of the tree's matrix
-pub has_inverse : (p n : ℕ) (listed : is_listed p ≡ true) (g : lin.Matrix ℕ) (m : Matrix) → sized_cells g ≡ generator p n m → (b : ℕ → ℕ → Scalar (gfp p listed)) → IsInverse (scalars (gfp p listed)) g.rows (entries (gfp p listed) g) b → HasInverse p n (cells p m)
+pub has_inverse : (p n : ℕ) (listed : is_listed p ≡ true) (g : lin.Matrix ℕ) (m : Matrix) → sized_cells g ≡ generator p n m → (b : ℕ → ℕ → Scalar (gfp p listed)) → IsInverse (scalars (gfp p listed)) g.rows (entries (gfp p listed) g) b → IsNonsingularModulo p n (cells p m)
 has_inverse p n listed g m e b inverse = let h = subst (Inverse p listed) e (b, inverse) in (listed, h.0, h.1)
 
-pub no_inverse : (p n : ℕ) (listed : is_listed p ≡ true) (g : lin.Matrix ℕ) (m : Matrix) → sized_cells g ≡ generator p n m → ((b : ℕ → ℕ → Scalar (gfp p listed)) → ¬ IsInverse (scalars (gfp p listed)) g.rows (entries (gfp p listed) g) b) → ¬ HasInverse p n (cells p m)
+pub no_inverse : (p n : ℕ) (listed : is_listed p ≡ true) (g : lin.Matrix ℕ) (m : Matrix) → sized_cells g ≡ generator p n m → ((b : ℕ → ℕ → Scalar (gfp p listed)) → ¬ IsInverse (scalars (gfp p listed)) g.rows (entries (gfp p listed) g) b) → ¬ IsNonsingularModulo p n (cells p m)
 no_inverse p n listed g m e none h =
     let here : Inverse p listed (generator p n m) = subst (λ l. Inverse p l (generator p n m)) (Bool-set _ _ h.0 listed) (h.1, h.2) in
     let found = subst (Inverse p listed) (sym e) here in
     none found.0 found.1
 
 -- an invertible matrix over the field has the inverse of the tree's
-pub invertible_has : (p n : ℕ) (g : lin.Matrix ℕ) (m : Matrix) → sized_cells g ≡ generator p n m → IsInvertible p g → HasInverse p n (cells p m)
+pub invertible_has : (p n : ℕ) (g : lin.Matrix ℕ) (m : Matrix) → sized_cells g ≡ generator p n m → IsInvertible p g → IsNonsingularModulo p n (cells p m)
 invertible_has p n g m e h = has_inverse p n h.0 g m e h.3 h.4
 
 pub invertible_is : (p n : ℕ) (listed : is_listed p ≡ true) (g : lin.Matrix ℕ) (m : Matrix) → sized_cells g ≡ generator p n m → IsMatrix (gfp p listed) g → (b : ℕ → ℕ → Scalar (gfp p listed)) → IsInverse (scalars (gfp p listed)) g.rows (entries (gfp p listed) g) b → IsInvertible p g

@@ -12,7 +12,7 @@ use Rattle.alg_core.specs.declared.input_fault.InputFault.{InputFault}
 use Rattle.alg_core.specs.declared.input_fault.InputFault.TheVariants as faults
 use Rattle.finvar_text.specs.declared.syntax.EntryText.{EntryText}
 use Rattle.finvar_text.specs.declared.syntax.MatrixText.{MatrixText}
-use Rattle.finvar_text.specs.Conditions.{is_small, is_small_matrix, is_small_item, number_fault, size_fault, cells, has_size, first_misfit, matrices_of, matrices, named, put_first, select, generators, generators_by, the_call, HasInverse, FirstSingular}
+use Rattle.finvar_text.specs.Conditions.{is_small, is_small_matrix, is_small_item, number_fault, size_fault, cells, has_size, first_misfit, matrices_of, matrices, named, put_first, select, generators, generators_by, the_call, IsNonsingularModulo, FirstSingular}
 use Rattle.finvar_text.specs.Scripts.{generator, IsFitting}
 use Rattle.finvar_text.specs.Syntax.{Call, Item, Lib, Declared, Printed, Called, Entry, Matrix, Script, IsItem, IsScript}
 use Rattle.finvar_text.specs.Trees.{entry_of, entries_of, matrix_of, matrices_at}
@@ -108,11 +108,11 @@ singular_here : (p n : ℕ) (xs : List (Bor MatrixText)) (i : ℕ) (d : Bor Matr
 singular_here p n xs i d fault below h = subst (λ l. FirstSingular p n (matrices_at l) fault) (sym (drop_more xs i d below)) h
 
 pub singular_step : (p n : ℕ) (xs : List (Bor MatrixText)) (i : ℕ) (d : Bor MatrixText) (fault : Option InputFault) → i < length xs
-    → HasInverse p n (cells p (matrix_of (get_or xs i d).now)) → FirstSingular p n (matrices_at (drop (i + 1) xs)) fault → FirstSingular p n (matrices_at (drop i xs)) fault
+    → IsNonsingularModulo p n (cells p (matrix_of (get_or xs i d).now)) → FirstSingular p n (matrices_at (drop (i + 1) xs)) fault → FirstSingular p n (matrices_at (drop i xs)) fault
 singular_step p n xs i d fault below has rest = singular_here p n xs i d fault below (inl (has, rest))
 
 pub singular_found : (p n : ℕ) (xs : List (Bor MatrixText)) (i : ℕ) (d : Bor MatrixText) (w : List ℕ) → i < length xs
-    → (¬ HasInverse p n (cells p (matrix_of (get_or xs i d).now))) → w ≡ (get_or xs i d).now.name.now → FirstSingular p n (matrices_at (drop i xs)) (Some (faults.Singular w))
+    → (¬ IsNonsingularModulo p n (cells p (matrix_of (get_or xs i d).now))) → w ≡ (get_or xs i d).now.name.now → FirstSingular p n (matrices_at (drop i xs)) (Some (faults.Singular w))
 singular_found p n xs i d w below none name = singular_here p n xs i d (Some (faults.Singular w)) below (inr (none, ap (λ v. Some (faults.Singular v)) name))
 
 pub generators_more : (p n : ℕ) (xs : List (Bor MatrixText)) (i : ℕ) (d : Bor MatrixText) → i < length xs

@@ -30,7 +30,7 @@
 --   first_of faults         the first fault
 --   residue p e, cells p m  the class of an entry modulo p, those of the entries of a matrix
 --   entries_of_cells k n cells   the scalar at a row and a column of an n by n matrix, 0 outside it
---   HasInverse p n cells    the n by n matrix has an inverse over GF(p)
+--   IsNonsingularModulo p n cells    the n by n matrix has an inverse over GF(p)
 --   FirstSingular p n ms fault   the fault tells the first matrix with no inverse, or there is none
 --   FaultFrom o s fault     the fault is o, where there is one, else that of the generators
 --   HasFault s fault        the first condition that fails has this fault, or all conditions hold and there is none
@@ -185,12 +185,12 @@ cells p m = map (residue p) m.entries
 abbrev pub entries_of_cells : (k : FieldOn ℕ) → ℕ → List ℕ → ℕ → ℕ → Scalar k
 entries_of_cells k n cs i = vector k (slice_index_or (cut n n cs) i [])
 
-abbrev pub HasInverse : ℕ → ℕ → List ℕ → Type 0
-HasInverse p n cs = (listed : is_listed p ≡ true) × (b : ℕ → ℕ → Scalar (gfp p listed)) × IsInverse (scalars (gfp p listed)) n (entries_of_cells (gfp p listed) n cs) b
+abbrev pub IsNonsingularModulo : ℕ → ℕ → List ℕ → Type 0
+IsNonsingularModulo p n cs = (listed : is_listed p ≡ true) × (b : ℕ → ℕ → Scalar (gfp p listed)) × IsInverse (scalars (gfp p listed)) n (entries_of_cells (gfp p listed) n cs) b
 
 abbrev pub FirstSingular : ℕ → ℕ → List Matrix → Option InputFault → Type 0
 FirstSingular p n [] fault = fault ≡ None
-FirstSingular p n (m ∷ ms) fault = (HasInverse p n (cells p m) × FirstSingular p n ms fault) ⊎ ((¬ HasInverse p n (cells p m)) × (fault ≡ Some (faults.Singular m.name)))
+FirstSingular p n (m ∷ ms) fault = (IsNonsingularModulo p n (cells p m) × FirstSingular p n ms fault) ⊎ ((¬ IsNonsingularModulo p n (cells p m)) × (fault ≡ Some (faults.Singular m.name)))
 
 abbrev pub FaultFrom : Option InputFault → Script → Option InputFault → Type 0
 FaultFrom (Some f) s fault = fault ≡ Some f

@@ -2,7 +2,7 @@
 
 ghost use Rattle.std.specs.Prelude.{◌≡◌, ◌*◌, ◌<◌, ◌^◌, true, length, map, All, IfOk, IfErr, IfNone, IfSome, None};
 ghost use Rattle.lin_algebra.specs.Matrices.{IsMatrix};
-ghost use Rattle.finvar_text.specs.Conditions.{is_small, residue, cells, FirstSingular, HasInverse};
+ghost use Rattle.finvar_text.specs.Conditions.{is_small, residue, cells, FirstSingular, IsNonsingularModulo};
 ghost use Rattle.finvar_text.specs.Scripts.{generator, sized_cells, IsFitting, IsInvertible, IsSingularFault};
 ghost use Rattle.finvar_text.specs.Trees.{entry_of, entries_of, matrix_of, matrices_at};
 
@@ -71,7 +71,7 @@ fn invertible_over(
 ) -> Result<Option<Matrix<u16>>, Memory>
     requires fitting { IsFitting n (matrix_of matrix.now) }
     ensures none { let p = (⟦<PrimeField as Field>⟧.field field.now).characteristic in
-        IfOk result (λ o. IfNone o (¬ HasInverse p n (cells p (matrix_of matrix.now)))) }
+        IfOk result (λ o. IfNone o (¬ IsNonsingularModulo p n (cells p (matrix_of matrix.now)))) }
     ensures is { let p = (⟦<PrimeField as Field>⟧.field field.now).characteristic in
         IfOk result (λ o. IfSome o (λ g. sized_cells g ≡ generator p n (matrix_of matrix.now))) }
     ensures invertible { let p = (⟦<PrimeField as Field>⟧.field field.now).characteristic in IfOk result (λ o. IfSome o (IsInvertible p)) }

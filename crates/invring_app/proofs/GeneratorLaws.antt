@@ -5,7 +5,7 @@ use Rattle.alg_core.specs.Fields.{FieldOn}
 use Rattle.lin_algebra.specs.declared.matrix.Matrix.{Matrix}
 use Rattle.lin_algebra.specs.Matrices.{IsMatrix}
 use Rattle.matrix_group.specs.Actions.{IsSquare}
-use Rattle.matrix_group.specs.Groups.{size, HasInverse}
+use Rattle.matrix_group.specs.Groups.{size, IsNonsingular}
 use Rattle.prime_field.specs.PrimeFields.{gfp, gfp_same, IsPrimeField}
 use Rattle.finvar_text.specs.Problems.{IsGenerator, IsSound}
 use Rattle.finvar_text.specs.declared.script.Script.{Script}
@@ -16,21 +16,21 @@ square p n k m field g =
     let same : gfp p over.0 ≡ k = gfp_same p p refl over.0 field.0 ∙ sym field.1 in
     record { matrix = subst (λ (l : FieldOn ℕ). IsMatrix l m) same over.1; rows = g.rows; cols = sym over.2 ∙ g.rows }
 
-inverse : (p n : ℕ) (k : FieldOn ℕ) (m : Matrix ℕ) → IsPrimeField p k → IsGenerator p n m → HasInverse k m
+inverse : (p n : ℕ) (k : FieldOn ℕ) (m : Matrix ℕ) → IsPrimeField p k → IsGenerator p n m → IsNonsingular k m
 inverse p n k m field g =
     let over = g.invertible in
     let same : gfp p over.0 ≡ k = gfp_same p p refl over.0 field.0 ∙ sym field.1 in
-    subst (λ (l : FieldOn ℕ). HasInverse l m) same (over.3, over.4)
+    subst (λ (l : FieldOn ℕ). IsNonsingular l m) same (over.3, over.4)
 
 pub squares : (s : Script) (k : FieldOn ℕ) (n : ℕ) (ms : List (Matrix ℕ)) → IsSound s → IsPrimeField s.characteristic k → n ≡ length s.names.items → ms ≡ s.gens.items → All (IsSquare k n) ms
 squares s k n ms sound field many same =
     let all = All-weaker (IsGenerator s.characteristic (length s.names.items)) (IsSquare k (length s.names.items)) (λ m g. square s.characteristic (length s.names.items) k m field g) s.gens.items sound.gens in
     subst (λ (gs : List (Matrix ℕ)). All (IsSquare k n) gs) (sym same) (subst (λ (i : ℕ). All (IsSquare k i) s.gens.items) (sym many) all)
 
-pub inverses : (s : Script) (k : FieldOn ℕ) (ms : List (Matrix ℕ)) → IsSound s → IsPrimeField s.characteristic k → ms ≡ s.gens.items → All (HasInverse k) ms
+pub inverses : (s : Script) (k : FieldOn ℕ) (ms : List (Matrix ℕ)) → IsSound s → IsPrimeField s.characteristic k → ms ≡ s.gens.items → All (IsNonsingular k) ms
 inverses s k ms sound field same =
-    let all = All-weaker (IsGenerator s.characteristic (length s.names.items)) (HasInverse k) (λ m g. inverse s.characteristic (length s.names.items) k m field g) s.gens.items sound.gens in
-    subst (λ (gs : List (Matrix ℕ)). All (HasInverse k) gs) (sym same) all
+    let all = All-weaker (IsGenerator s.characteristic (length s.names.items)) (IsNonsingular k) (λ m g. inverse s.characteristic (length s.names.items) k m field g) s.gens.items sound.gens in
+    subst (λ (gs : List (Matrix ℕ)). All (IsNonsingular k) gs) (sym same) all
 
 -- the first generator has a row for each variable
 first-size : (p n : ℕ) (ms : List (Matrix ℕ)) → 0 < length ms → All (IsGenerator p n) ms → size ms ≡ n

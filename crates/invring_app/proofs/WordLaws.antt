@@ -10,6 +10,7 @@ use Rattle.std.proofs.lemmas.Fmt.{decimal_nonempty}
 use Rattle.std.proofs.lemmas.List.Sums.{split_at_first, passes_at_first}
 use Rattle.std.proofs.lemmas.Option.{same_Some}
 use Rattle.std.proofs.lemmas.Slice.Eq.{bytes_eq-Decides}
+use Rattle.alg_core.proofs.NumberTests.{is_below, not_below}
 use Rattle.invring_app.specs.declared.arguments.Argument.{Argument}
 use Rattle.invring_app.specs.declared.arguments.Argument.TheVariants.{Number, MaxOrder, MaxDegree, MaxBasis, MaxTerms, MaxRank, Tries, MaxText}
 use Rattle.invring_app.specs.declared.given.Given.{Given}
@@ -67,14 +68,11 @@ start-split g a name text at before after is =
     let w : List ℕ = name ++ (codes "=" ++ text) in
     let long : length w ≡ length name + length (codes "=" ++ text) = length-append name (codes "=" ++ text) in
     let more : 0 < length (codes "=" ++ text) = omega arith in
-    let test : nat_lt (position_or_len (λ b. b == 61) w) (length w) ≡ true = below (position_or_len (λ b. b == 61) w) (length w) (omega arith) in
+    let test : nat_lt (position_or_len (λ b. b == 61) w) (length w) ≡ true = is_below (position_or_len (λ b. b == 61) w) (length w) (omega arith) in
     ap (λ t. if t then (named (before_first (λ b. b == 61) w) >>= λ a. give g a (after_first (λ b. b == 61) w)) else plain g w (named w)) test
     ∙ ap (λ n. named n >>= λ a. give g a (after_first (λ b. b == 61) w)) before
     ∙ ap (λ o. o >>= λ a. give g a (after_first (λ b. b == 61) w)) is
     ∙ ap (give g a) after
-  where
-    below : (m n : ℕ) → m < n → nat_lt m n ≡ true
-    below m n lt = grind (arith, nat_tests)
 
 start-both : (g : Given) (text : List ℕ) (a : Argument) (name : List ℕ) → option_name a ≡ Some name → start g None (name ++ (codes "=" ++ text)) ≡ give g a text
 unfolding named
@@ -83,9 +81,6 @@ start-both g text =
     at-option (λ a name. start g None (name ++ (codes "=" ++ text)) ≡ give g a text) (split MaxOrder (codes "--max-order") refl refl refl refl) (split MaxDegree (codes "--max-degree") refl refl refl refl)
     (split MaxBasis (codes "--max-basis") refl refl refl refl) (split MaxTerms (codes "--max-terms") refl refl refl refl) (split MaxRank (codes "--max-rank") refl refl refl refl)
     (split Tries (codes "--tries") refl refl refl refl) (split MaxText (codes "--max-text") refl refl refl refl)
-
-not_below : (m n : ℕ) → n ≤ m → nat_lt m n ≡ false
-not_below m n le = grind (arith, nat_tests)
 
 at_least : (m n : ℕ) → nat_lt m n ≡ false → n ≤ m
 at_least m n test = grind (arith, nat_tests)

@@ -1,28 +1,22 @@
 -- The rows of two matrices side by side.
-use Rattle.std.proofs.Common.{◌≡◌, ℕ, zero, suc, ◌+◌, ◌-◌, ◌*◌, ◌<◌, ◌≤◌, ◌⊎◌, inl, inr, true, false, List, [], ◌∷◌, ◌++◌, map, length, drop, get_or, nat_lt, sym, ap, ap₂, ◌∙◌, refl, arith}
+use Rattle.std.proofs.Common.{◌≡◌, ℕ, zero, suc, ◌+◌, ◌-◌, ◌*◌, ◌<◌, ◌≤◌, ◌⊎◌, inl, inr, List, [], ◌∷◌, ◌++◌, map, length, drop, get_or, sym, ap, ap₂, ◌∙◌, refl, arith}
 use Rattle.std.specs.Prelude.{if◌then◌else◌}
 use Rattle.std.specs.List.{AllByRecursion as Each}
 use Rattle.std.proofs.lemmas.Bool.{cases_lt}
-use Rattle.std.proofs.lemmas.Bool.Decides.{nat_tests}
 use Rattle.std.proofs.lemmas.List.{get_or_append_left, get_or-append_right, length-append, take_all, get_or-take, get_or-drop}
 use Rattle.std.proofs.lemmas.List.Elements.{All-append}
 use Rattle.alg_core.specs.Fields.{FieldOn, Has, scalar}
+use Rattle.alg_core.proofs.NumberTests.{is_below, not_below}
 use Rattle.lin_algebra.specs.declared.matrix.Matrix.{Matrix}
 use Rattle.lin_algebra.specs.Vectors.{vector, IsRow}
 use Rattle.lin_algebra.specs.Matrices.{rows_of, joined, beside, entries, IsMatrix}
 use Rattle.lin_algebra.proofs.CutLaws.{cut_at, listing, listing_same, listing_of_list, length_cut, IsRow_rows_of, IsRow_row}
 
 pub beside_left : {K : Type 0} (n : ℕ) (u v : ℕ → K) (j : ℕ) → j < n → beside n u v j ≡ u j
-beside_left n u v j h = ap (λ t. if t then u j else v (j - n)) (below j n h)
-  where
-    below : (j n : ℕ) → j < n → nat_lt j n ≡ true
-    below j n h = grind (arith, nat_tests)
+beside_left n u v j h = ap (λ t. if t then u j else v (j - n)) (is_below j n h)
 
 pub beside_right : {K : Type 0} (n : ℕ) (u v : ℕ → K) (j : ℕ) → n ≤ j → beside n u v j ≡ v (j - n)
 beside_right n u v j h = ap (λ t. if t then u j else v (j - n)) (not_below j n h)
-  where
-    not_below : (j n : ℕ) → n ≤ j → nat_lt j n ≡ false
-    not_below j n h = grind (arith, nat_tests)
 
 module _ {E : Type 0} where
   pub length_joined : (xs ys : List (List E)) → length (joined xs ys) ≡ length xs

@@ -13,6 +13,7 @@
 --   product R n a b     the product of a, with n columns, and b, with n rows
 --   IsIdentity R n p    the first n rows of p are those of the identity
 --   IsInverse R n a b   both products of a and b are the identity
+--   HasInverse R n a    some b is inverse to a
 --   IsSolution k a b x  a · x = b
 --   IsKernelVector k a v  a · v = 0, and v is 0 past the columns of a
 --   IsDependent k a j   the column j of a is a combination of the columns before it
@@ -84,6 +85,10 @@ module _ {K : Type 0} (R : Ring K) where
   pub record IsInverse (n : ℕ) (a b : ℕ → ℕ → K) : Type 0 where
     pub right : IsIdentity n (product n a b)
     pub left : IsIdentity n (product n b a)
+
+  -- some matrix is inverse to a
+  abbrev pub HasInverse : ℕ → (ℕ → ℕ → K) → Type 0
+  HasInverse n a = (b : ℕ → ℕ → K) × IsInverse n a b
 
 module _ {E : Type 0} (k : FieldOn E) (a : Matrix E) where
   -- a · x = b

@@ -4,8 +4,8 @@ ghost use Rattle.lin_algebra.specs.Vectors.{vectors, vector, IsRow};
 ghost use Rattle.alg_core.specs.Spans.{SameSpan};
 ghost use Rattle.lin_algebra.specs.Bases.{basis_rows, rows_of_basis, IsBasis, cleared_at, cleared, reduced_by, IsMonicMultiple, IsPutIn};
 
-use crate::rows::{add_multiple, first_nonzero, is_zero, scale};
-use alg_core::{Field, Memory};
+use crate::rows::{add_multiple, first_nonzero, scale};
+use alg_core::{Field, Memory, is_zero};
 use std::alloc::Global;
 
 /// A row of a list in reduced echelon form, with the column of its first nonzero entry, which is 1.

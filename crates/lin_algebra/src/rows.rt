@@ -1,16 +1,9 @@
-ghost use Rattle.std.specs.Prelude.{◌≡◌, ◌≢◌, ℕ, ◌<◌, ◌↔◌, All, length, IsTrue, IfNone, IfSome, IfOk, slice_index_or};
+ghost use Rattle.std.specs.Prelude.{◌≡◌, ◌≢◌, ℕ, ◌<◌, All, length, IfNone, IfSome, IfOk, slice_index_or};
 ghost use Rattle.alg_core.specs.Fields.{Has, scalar, scalars};
 ghost use Rattle.lin_algebra.specs.Vectors.{vectors, vector, unit, IsRow};
 
-use alg_core::{Field, Memory};
+use alg_core::{Field, Memory, is_zero};
 use std::alloc::Global;
-
-/// Whether the value is zero.
-pub(crate) fn is_zero<F: Field>(field: &F, a: F::Elem) -> bool
-    ensures is { IsTrue result ↔ (a ≡ (F.field field.now).zero) }
-{
-    a == field.zero()
-}
 
 /// A row of `n` zeros.
 pub(crate) fn zeros<F: Field>(alloc: Global, field: &F, n: usize) -> Result<Vec<F::Elem>, Memory>

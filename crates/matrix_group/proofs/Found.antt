@@ -1,10 +1,24 @@
 -- Lists in which no member stands twice, and the test whether a member is found.
-use Rattle.std.proofs.Common.{◌≡◌, ℕ, zero, suc, ◌+◌, ◌<◌, ◌≤◌, ◌⊎◌, inl, inr, Bool, true, false, cond, ◌||◌, List, [], ◌∷◌, ◌++◌, map, length, take, get_or, All, Contains, sym, ap, ◌∙◌, refl, subst, arith, true≢false}
+use Rattle.std.proofs.Common.{◌≡◌, ◌≢◌, ℕ, zero, suc, ◌+◌, ◌<◌, ◌≤◌, ◌⊎◌, inl, inr, Bool, true, false, cond, ◌||◌, List, [], ◌∷◌, ◌++◌, map, length, take, get_or, All, Contains, sym, ap, ◌∙◌, refl, subst, arith, true≢false}
 use Rattle.std.proofs.lemmas.List.{length-map, length-append, length_push, get_or_append_left}
-use Rattle.std.proofs.lemmas.List.Elements.{Contains-append_left, Contains-append_right, Contains-append_cases, Contains-push, Contains-push_cases, All-push}
+use Rattle.std.proofs.lemmas.List.Elements.{Contains-append_left, Contains-append_right, Contains-append_cases, Contains-get_or, Contains-push, Contains-push_cases, All-push}
+use Rattle.std.proofs.lemmas.List.Kept.{AllPairs-cons}
+use Rattle.std.proofs.lemmas.List.Quantifiers.{all_pairs_push}
 use lib.Pointwise.{pointwise_decides}
 use Rattle.alg_core.specs.Fields.{FieldOn}
 use Rattle.matrix_group.specs.Groups.{AreApart, is_yes, is_same, is_found, with_new}
+
+pub AreApart_nil : {X : Type 0} → AreApart {A = X} []
+AreApart_nil i j d l h = absurd (omega arith)
+
+pub AreApart_head : {X : Type 0} (x : X) (xs : List X) → AreApart (x ∷ xs) → ¬ Contains xs x
+AreApart_head x xs a h = let inside = h.1 in a 0 (suc h.0) x (omega arith) (omega arith) (sym h.2)
+
+pub AreApart_tail : {X : Type 0} (x : X) (xs : List X) → AreApart (x ∷ xs) → AreApart xs
+AreApart_tail x xs a i j d l h = a (suc i) (suc j) d (omega arith) (omega arith)
+
+pub AreApart_cons : {X : Type 0} (x : X) (xs : List X) → ¬ Contains xs x → AreApart xs → AreApart (x ∷ xs)
+AreApart_cons x xs n a = AllPairs-cons (λ x y. x ≢ y) x xs (λ i d l e. n (subst (Contains xs) (sym e) (Contains-get_or xs i d l))) a
 
 module _ {X : Type 0} where
   pub Contains_nil : (y : X) → ¬ Contains [] y
@@ -63,32 +77,26 @@ module _ {X : Type 0} where
   Contains_of_map f (x ∷ xs) y (suc i, inside, e) = let r = Contains_of_map f xs y (i, omega arith, e) in (r.0, Contains_tail x xs r.0 r.1, r.2)
 
   pub AreApart_push : (xs : List X) (y : X) → AreApart xs → ¬ Contains xs y → AreApart (xs ++ y ∷ [])
-  AreApart_push [] y a n = (Contains_nil y, tt)
-  AreApart_push (x ∷ xs) y a n = (λ h. go (Contains-push_cases xs y x h), AreApart_push xs y a.1 (λ h. n (Contains_tail x xs y h)))
-    where
-      go : Contains xs x ⊎ (y ≡ x) → ⊥
-      go (inl h) = a.0 h
-      go (inr e) = n (0, omega arith, sym e)
+  AreApart_push xs y a n = all_pairs_push (λ x z. x ≢ z) xs y a (λ i d l e. n (subst (Contains xs) e (Contains-get_or xs i d l)))
 
   pub AreApart_take : (n : ℕ) (xs : List X) → AreApart xs → AreApart (take n xs)
-  AreApart_take zero xs a = tt
-  AreApart_take (suc n) [] a = tt
-  AreApart_take (suc n) (x ∷ xs) a = (λ h. a.0 (Contains_take n xs x h), AreApart_take n xs a.1)
+  AreApart_take zero xs a = AreApart_nil
+  AreApart_take (suc n) [] a = AreApart_nil
+  AreApart_take (suc n) (x ∷ xs) a = AreApart_cons x (take n xs) (λ h. AreApart_head x xs a (Contains_take n xs x h)) (AreApart_take n xs (AreApart_tail x xs a))
 
   pub AreApart_map : {Y : Type 0} (f : X → Y) (xs : List X) → ((x y : X) → Contains xs x → Contains xs y → f x ≡ f y → x ≡ y) → AreApart xs → AreApart (map f xs)
-  AreApart_map f [] inj a = tt
-  AreApart_map f (x ∷ xs) inj a = (
-    λ h. let r = Contains_of_map f xs (f x) h in a.0 (subst (Contains xs) (inj r.0 x (Contains_tail x xs r.0 r.1) (Contains_head x xs) r.2) r.1),
-    AreApart_map f xs (λ y z p q. inj y z (Contains_tail x xs y p) (Contains_tail x xs z q)) a.1,
-  )
+  AreApart_map f [] inj a = AreApart_nil
+  AreApart_map f (x ∷ xs) inj a = AreApart_cons (f x) (map f xs)
+      (λ h. let r = Contains_of_map f xs (f x) h in AreApart_head x xs a (subst (Contains xs) (inj r.0 x (Contains_tail x xs r.0 r.1) (Contains_head x xs) r.2) r.1))
+      (AreApart_map f xs (λ y z p q. inj y z (Contains_tail x xs y p) (Contains_tail x xs z q)) (AreApart_tail x xs a))
 
   -- a list of different members is no longer than a list that has them all
   pub AreApart_length : (xs ys : List X) → AreApart xs → ((x : X) → Contains xs x → Contains ys x) → length xs ≤ length ys
   AreApart_length [] ys a h = omega arith
   AreApart_length (x ∷ xs) ys a h =
       let s = Contains_split ys x (h x (Contains_head x xs)) in
-      let fewer : length xs ≤ length (s.0 ++ s.1) = AreApart_length xs (s.0 ++ s.1) a.1
-      (λ y g. Contains_without s.0 x s.1 y (subst (λ l. Contains l y) s.2 (h y (Contains_tail x xs y g))) (λ e. a.0 (subst (Contains xs) (sym e) g))) in
+      let fewer : length xs ≤ length (s.0 ++ s.1) = AreApart_length xs (s.0 ++ s.1) (AreApart_tail x xs a)
+      (λ y g. Contains_without s.0 x s.1 y (subst (λ l. Contains l y) s.2 (h y (Contains_tail x xs y g))) (λ e. AreApart_head x xs a (subst (Contains xs) (sym e) g))) in
       let all : length ys ≡ length (s.0 ++ x ∷ s.1) = ap length s.2 in
       omega (arith, length-append s.0 s.1, length-append s.0 (x ∷ s.1))
 
@@ -119,7 +127,7 @@ module _ {X : Type 0} where
 
         go : Dec (Contains xs y) → Contains xs y
         go (yes p) = p
-        go (no n) = let longer = AreApart_length (y ∷ xs) ys (n, a) (λ x p. there x (Contains_cases y xs x p)) in absurd (omega arith)
+        go (no n) = let longer = AreApart_length (y ∷ xs) ys (AreApart_cons y xs n a) (λ x p. there x (Contains_cases y xs x p)) in absurd (omega arith)
 
     -- a map of different members into their list that keeps them apart reaches each
     pub AreApart_reached : (f : X → X) (xs : List X) → AreApart xs → ((x : X) → Contains xs x → Contains xs (f x)) → ((x y : X) → Contains xs x → Contains xs y → f x ≡ f y → x ≡ y)

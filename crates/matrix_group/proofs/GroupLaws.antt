@@ -4,10 +4,10 @@ use Rattle.std.proofs.lemmas.List.Elements.{All-contains, All-map, Contains-get_
 use Rattle.alg_core.specs.Fields.{FieldOn, Scalar, scalars}
 use Rattle.lin_algebra.specs.declared.matrix.Matrix.{Matrix}
 use Rattle.lin_algebra.specs.Vectors.{unit}
-use Rattle.lin_algebra.specs.Matrices.{entries, product, IsInverse}
+use Rattle.lin_algebra.specs.Matrices.{entries, product, HasInverse, IsInverse}
 use Rattle.lin_algebra.proofs.DotLaws.{dot_same}
 use Rattle.matrix_group.specs.Actions.{IsSquare}
-use Rattle.matrix_group.specs.Groups.{cells_of, entry, made, identity, times, IsCells, HasInverse, IsProduct, AreElements, IsGroup}
+use Rattle.matrix_group.specs.Groups.{cells_of, entry, made, identity, times, IsCells, IsNonsingular, IsProduct, AreElements, IsGroup}
 use Rattle.matrix_group.proofs.Cells.{cells_made, entry_made, made_same, cells_of_matrix, entries_of_matrix, identity_cells, times_cells, times_assoc, identity_times, times_identity}
 use Rattle.matrix_group.proofs.Found.{cells_or_not, AreApart_reached}
 use Rattle.matrix_group.proofs.Products.{IsProduct_identity, IsProduct_times, IsProduct_generator, IsProduct_cells, products_induction}
@@ -18,7 +18,7 @@ module _ {E : Type 0} (k : FieldOn E) (n : ℕ) where
 
   -- a matrix that is inverse on both sides
   abbrev pub IsInvertible : Cells → Type 0
-  IsInvertible g = (b : ℕ → ℕ → Scalar k) × IsInverse (scalars k) n (entry k n g) b
+  IsInvertible g = HasInverse (scalars k) n (entry k n g)
 
   -- and its cells
   abbrev pub InverseCells : Cells → Type 0
@@ -112,8 +112,8 @@ module _ {E : Type 0} (k : FieldOn E) (n : ℕ) where
   pub matrices_cells : (ms : List (Matrix E)) → All (IsSquare k n) ms → All (IsCells k n) (cells_of ms)
   matrices_cells ms h = All-map (IsCells k n) (λ m. m.cells.items) ms (λ i d b. cells_of_matrix k n (get_or ms i d) (h i d b))
 
-  pub matrix_invertible : (m : Matrix E) → IsSquare k n m → HasInverse k m → IsInvertible m.cells.items
+  pub matrix_invertible : (m : Matrix E) → IsSquare k n m → IsNonsingular k m → IsInvertible m.cells.items
   matrix_invertible m h (b, i) = (b, subst (λ a. IsInverse (scalars k) n a b) (entries_of_matrix k n m h) (subst (λ r. IsInverse (scalars k) r (entries k m) b) h.rows i))
 
-  pub matrices_invertible : (ms : List (Matrix E)) → All (IsSquare k n) ms → All (HasInverse k) ms → All IsInvertible (cells_of ms)
+  pub matrices_invertible : (ms : List (Matrix E)) → All (IsSquare k n) ms → All (IsNonsingular k) ms → All IsInvertible (cells_of ms)
   matrices_invertible ms h g = All-map IsInvertible (λ m. m.cells.items) ms (λ i d b. matrix_invertible (get_or ms i d) (h i d b) (g i d b))

@@ -1,13 +1,13 @@
 -- Linear forms by their coefficients.
-use Rattle.std.specs.Prelude.{◌≡◌, ℕ, zero, suc, ◌<◌, ◌≤◌, [], ◌∷◌, length, replicate, nat_lt, true, false, if◌then◌else◌}
+use Rattle.std.specs.Prelude.{◌≡◌, ℕ, zero, suc, ◌<◌, ◌≤◌, [], ◌∷◌, length, replicate, if◌then◌else◌}
 use Rattle.std.proofs.Common.{◌⊎◌, inl, inr}
 use Rattle.std.proofs.lemmas.Bool.{cases_lt}
-use Rattle.std.proofs.lemmas.Bool.Decides.{nat_tests}
 use mathlib.Core.Path.{sym, ap, ap₂, ◌∙◌, refl, subst}
 use native.Mathlib.Decide.{ℕ_discrete}
 use native.Mathlib.Omega.{arith}
 use Rattle.alg_core.specs.ModuleLaws as modules
 use Rattle.alg_core.specs.Fields.{FieldOn, Scalar, scalars}
+use Rattle.alg_core.proofs.NumberTests.{is_below, not_below}
 use Rattle.alg_core.specs.CanonicalLists.{indicator_no, indicator_yes}
 use Rattle.alg_core.specs.Keys.{Key}
 use Rattle.alg_core.specs.Vectors.{Vect, vectors, plus, zero_vector}
@@ -106,16 +106,10 @@ module _ {E : Type 0} (k : FieldOn E) where
 
   -- the image of one of the first n variables, and of any other
   pub image_inside : (n : ℕ) (a : ℕ → ℕ → Scalar k) (i : ℕ) → i < n → image k n a i ≡ linear_form k n (a i)
-  image_inside n a i h = ap (λ t. if t then linear_form k n (a i) else variable_vector k i) (below i n h)
-    where
-      below : (j n : ℕ) → j < n → nat_lt j n ≡ true
-      below j n h = grind (arith, nat_tests)
+  image_inside n a i h = ap (λ t. if t then linear_form k n (a i) else variable_vector k i) (is_below i n h)
 
   pub image_outside : (n : ℕ) (a : ℕ → ℕ → Scalar k) (i : ℕ) → n ≤ i → image k n a i ≡ variable_vector k i
   image_outside n a i h = ap (λ t. if t then linear_form k n (a i) else variable_vector k i) (not_below i n h)
-    where
-      not_below : (j n : ℕ) → n ≤ j → nat_lt j n ≡ false
-      not_below j n h = grind (arith, nat_tests)
 
   -- a property of images, by cases
   pub image_has : (P : Vect k → Type 0) (n : ℕ) (a : ℕ → ℕ → Scalar k) (i : ℕ) → (i < n → P (linear_form k n (a i))) → (n ≤ i → P (variable_vector k i)) → P (image k n a i)

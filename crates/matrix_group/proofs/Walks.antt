@@ -7,7 +7,7 @@ use Rattle.std.proofs.lemmas.List.Elements.{All-head, All-tail, All-take, All-co
 use Rattle.alg_core.specs.Fields.{FieldOn}
 use Rattle.matrix_group.specs.Groups.{AreApart, with_new, identity, times, IsCells, IsProduct, AreElements, IsOverOrder, with_products, walk, IsWalk}
 use Rattle.matrix_group.proofs.Cells.{identity_cells, times_cells}
-use Rattle.matrix_group.proofs.Found.{Contains_nil, Contains_cases, is_found_decides, with_new_found, with_new_apart, with_new_old, with_new_last, with_new_members, with_new_all, with_new_longer, with_new_start}
+use Rattle.matrix_group.proofs.Found.{AreApart_nil, AreApart_cons, Contains_nil, Contains_cases, is_found_decides, with_new_found, with_new_apart, with_new_old, with_new_last, with_new_members, with_new_all, with_new_longer, with_new_start}
 use Rattle.matrix_group.proofs.Products.{IsProduct_identity, IsProduct_more, products_induction}
 
 module _ {E : Type 0} (k : FieldOn E) (n : ℕ) where
@@ -64,7 +64,7 @@ module _ {E : Type 0} (k : FieldOn E) (n : ℕ) where
 
     pub stage_start : IsStage (identity k n ∷ [])
     stage_start = record {
-      apart = (Contains_nil (identity k n), tt);
+      apart = AreApart_cons (identity k n) [] (Contains_nil (identity k n)) AreApart_nil;
       products = λ g h. at g (Contains_cases (identity k n) [] g h);
       cells = λ i d h. cells i d h;
       positive = omega arith;

@@ -20,23 +20,22 @@
 --   walk k n gens c          what is found when the elements at the first c places were multiplied, each in turn, by
 --                            each generator from the right, and each new product went last; first is the identity
 --   IsWalk k n gens gs       gs is what is found when each of its members was multiplied
---   HasInverse k m           the matrix m has an inverse
+--   IsNonsingular k m        the matrix m has an inverse
 --   IsGroup k n gs           gs are n by n matrices over the field, each once, with the identity, the product of each two
 --                            and the inverse of each
 --   size ms                  how many rows the first matrix has
-use Rattle.std.specs.Prelude.{◌≡◌, ℕ, zero, suc, ◌+◌, ◌*◌, Bool, true, false, List, [], ◌∷◌, ◌++◌, if◌then◌else◌, length, map, All, Contains, slice_index_or}
+use Rattle.std.specs.Prelude.{◌≡◌, ◌≢◌, ℕ, zero, suc, ◌+◌, ◌*◌, Bool, true, false, List, [], ◌∷◌, ◌++◌, if◌then◌else◌, length, map, All, AllPairs, Contains, slice_index_or}
 use Rattle.std.specs.List.{flat_map, fold, list_any}
 use lib.Pointwise.{pointwise}
 use Rattle.alg_core.specs.Fields.{FieldOn, Has, Scalar, scalars}
 use Rattle.lin_algebra.specs.Vectors.{vector, unit}
-use Rattle.lin_algebra.specs.Matrices.{cut, entries, product, IsInverse}
+use Rattle.lin_algebra.specs.Matrices.{cut, entries, product, HasInverse}
 use Rattle.lin_algebra.specs.declared.matrix.Matrix.{Matrix}
 use Rattle.lin_algebra.proofs.CutLaws.{listing}
 
 -- no member stands twice
 abbrev pub AreApart : {A : Type 0} → List A → Type 0
-AreApart [] = Unit {0}
-AreApart (x ∷ xs) = (¬ Contains xs x) × AreApart xs
+AreApart xs = AllPairs (λ x y. x ≢ y) xs
 
 abbrev pub is_yes : {A : Type 0} → Dec A → Bool
 is_yes (yes p) = true
@@ -59,8 +58,8 @@ module _ {E : Type 0} (k : FieldOn E) where
   abbrev pub with_new : List (List E) → List E → List (List E)
   with_new gs g = if is_found gs g then gs else gs ++ g ∷ []
 
-  abbrev pub HasInverse : Matrix E → Type 0
-  HasInverse m = (b : ℕ → ℕ → Scalar k) × IsInverse (scalars k) m.rows (entries k m) b
+  abbrev pub IsNonsingular : Matrix E → Type 0
+  IsNonsingular m = HasInverse (scalars k) m.rows (entries k m)
 
   module _ (n : ℕ) where
     abbrev pub entry : List E → ℕ → ℕ → Scalar k

@@ -2,7 +2,7 @@ ghost use Rattle.std.specs.Prelude.{◌≡◌, ◌≤◌, ◌<◌, ◌+◌, ◌^
 ghost use Rattle.indexmap.specs.IndexSet.{insert_key};
 ghost use Rattle.matrix_group.specs.Insertions.{are_same};
 ghost use Rattle.matrix_group.specs.Actions.{IsSquare};
-ghost use Rattle.matrix_group.specs.Groups.{size, cells_of, HasInverse, AreElements, IsOverOrder, IsWalk, IsGroup};
+ghost use Rattle.matrix_group.specs.Groups.{size, cells_of, IsNonsingular, AreElements, IsOverOrder, IsWalk, IsGroup};
 ghost use Rattle.matrix_group.specs.declared.fault.GroupFault.TheVariants.{GroupBound};
 
 use crate::fault::GroupFault;
@@ -58,7 +58,7 @@ pub fn enumerate<F: Field>(
 ) -> Result<Group<F::Elem>, GroupFault>
     requires some { 0 < length gens.now }
     requires square { All (IsSquare (F.field field.now) (size gens.now)) gens.now }
-    requires invertible { All (HasInverse (F.field field.now)) gens.now }
+    requires invertible { All (IsNonsingular (F.field field.now)) gens.now }
     requires max { max + 1 < 2 ^ 64 }
     ensures square { IfOk result (All (IsSquare (F.field field.now) (size gens.now))) }
     ensures size { IfOk result (λ g. size g ≡ size gens.now) }

@@ -6,7 +6,7 @@ use Rattle.alg_core.specs.Fields.{FieldOn, scalar_one, scalar_add}
 use Rattle.alg_core.specs.Vectors.{Vect, vectors, plus, zero_vector, scale}
 use Rattle.alg_core.proofs.VectorLaws.{plus_left_comm, plus_swap, zero_plus, plus_zero, plus_assoc, scale_zero}
 use Rattle.matrix_group.specs.Groups.{AreApart}
-use Rattle.matrix_group.proofs.Found.{Contains_nil, Contains_head, Contains_tail, Contains_cases, Contains_split, Contains_without}
+use Rattle.matrix_group.proofs.Found.{AreApart_head, AreApart_tail, Contains_nil, Contains_head, Contains_tail, Contains_cases, Contains_split, Contains_without}
 use Rattle.alg_core.specs.Fields.{ones}
 use Rattle.reynolds_op.specs.Averages.{sum_of}
 use Rattle.reynolds_op.proofs.Members.{Contains_with, AreApart_without}
@@ -49,8 +49,8 @@ module _ {E : Type 0} (k : FieldOn E) {A : Type 0} where
   sum_members f (x ∷ xs) ys a b to from =
       let s = Contains_split ys x (to x (Contains_head x xs)) in
       let rest = AreApart_without s.0 x s.1 (subst AreApart s.2 b) in
-      ap (plus k (f x)) (sum_members f xs (s.0 ++ s.1) a.1 rest.0
-      (λ y c. Contains_without s.0 x s.1 y (subst (λ l. Contains l y) s.2 (to y (Contains_tail x xs y c))) (λ e. a.0 (subst (Contains xs) (sym e) c)))
+      ap (plus k (f x)) (sum_members f xs (s.0 ++ s.1) (AreApart_tail x xs a) rest.0
+      (λ y c. Contains_without s.0 x s.1 y (subst (λ l. Contains l y) s.2 (to y (Contains_tail x xs y c))) (λ e. AreApart_head x xs a (subst (Contains xs) (sym e) c)))
       (λ y c. other y (λ e. rest.1 (subst (Contains (s.0 ++ s.1)) (sym e) c)) (Contains_cases x xs y (from y (subst (λ l. Contains l y) (sym s.2) (Contains_with s.0 x s.1 y c))))))
       ∙ sym (sum_without f s.0 x s.1) ∙ ap (sum_of k f) (sym s.2)
     where

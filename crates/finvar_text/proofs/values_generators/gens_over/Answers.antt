@@ -6,7 +6,7 @@ use Rattle.std.proofs.lemmas.List.Elements.{All-push}
 use Rattle.alg_core.specs.declared.input_fault.InputFault.TheVariants as faults
 use Rattle.lin_algebra.specs.declared.matrix.Matrix as lin
 use Rattle.finvar_text.specs.declared.syntax.MatrixText.{MatrixText}
-use Rattle.finvar_text.specs.Conditions.{cells, HasInverse}
+use Rattle.finvar_text.specs.Conditions.{cells, IsNonsingularModulo}
 use Rattle.finvar_text.specs.Scripts.{generator, sized_cells, IsFitting, IsInvertible}
 use Rattle.finvar_text.specs.Trees.{matrix_of, matrices_at}
 use Rattle.finvar_text.proofs.GeneratorSteps.{invertible_has}
@@ -39,8 +39,8 @@ returns-in-None-clause-fault c =
     let i = c.loop-i.i in
     let x = c.index-matrix.result.now in
     let below : i < length xs = subst (λ k. i < k) (c.len-i-end.ensures ∙ c.args.matrices.ok.0) c.loop-i-test.true in
-    let none = subst (λ o. IfNone o (¬ HasInverse p n (cells p (matrix_of x.now)))) c.in-None.is c.in_ok-over.ensures.none in
-    let here = subst (λ (y : Bor MatrixText). ¬ HasInverse p n (cells p (matrix_of y.now))) c.index-matrix.ensures none in
+    let none = subst (λ o. IfNone o (¬ IsNonsingularModulo p n (cells p (matrix_of x.now)))) c.in-None.is c.in_ok-over.ensures.none in
+    let here = subst (λ (y : Bor MatrixText). ¬ IsNonsingularModulo p n (cells p (matrix_of y.now))) c.index-matrix.ensures none in
     let name = c.in_ok-name-in-None.ensures.is ∙ ap (λ (y : Bor MatrixText). y.now.name.now) c.index-matrix.ensures in
     c.loop-i.invariant.left (Some (faults.Singular c.in_ok-name-in-None.name)) (singular_found p n xs i x c.in_ok-name-in-None.name below here name)
 
