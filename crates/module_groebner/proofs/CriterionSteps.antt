@@ -102,26 +102,9 @@ module _ {E M : Type 0} (S : SpaceOver E) (exps : M → List ℕ) where
         not_zero = n;
       }
 
-  -- all pairs before a place, and those with it
+  -- all pairs before a place
   abbrev pub TreatedBefore : List Terms → ℕ → Type 0
   TreatedBefore list j = (a b : ℕ) → a < b → b < j → IsTreated S (listed S.field (vectors_of S exps list)) a b
-
-  abbrev pub TreatedWith : List Terms → ℕ → ℕ → Type 0
-  TreatedWith list i j = (a : ℕ) → a < i → IsTreated S (listed S.field (vectors_of S exps list)) a j
-
-  pub with_more : (list : List Terms) (i j : ℕ) → TreatedWith list i j → IsTreated S (listed S.field (vectors_of S exps list)) i j → TreatedWith list (i + 1) j
-  with_more list i j h t a low = go (dec_le (a + 1) i)
-    where
-      go : Dec (a + 1 ≤ i) → IsTreated S (listed S.field (vectors_of S exps list)) a j
-      go (yes p) = h a (omega arith)
-      go (no n) = let e : i ≡ a = omega arith in subst (λ b. IsTreated S (listed S.field (vectors_of S exps list)) b j) e t
-
-  pub before_more : (list : List Terms) (i j : ℕ) → j ≤ i → TreatedBefore list j → TreatedWith list i j → TreatedBefore list (j + 1)
-  before_more list i j all h t a b less low = go (dec_le (b + 1) j)
-    where
-      go : Dec (b + 1 ≤ j) → IsTreated S (listed S.field (vectors_of S exps list)) a b
-      go (yes p) = h a b less (omega arith)
-      go (no n) = let e : j ≡ b = omega arith in subst (λ c. IsTreated S (listed S.field (vectors_of S exps list)) a c) e (t a (omega arith))
 
   pub all_treated : AllPositive S.weights → (list : List Terms) (j : ℕ) → AreHomogeneousUpTo S cap_limit (vectors_of S exps list) → length list ≤ j → TreatedBefore list j → IsGroebnerBasis S.field (listed S.field (vectors_of S exps list)) (key_order S)
   all_treated positive list j h done t = treated_basis S positive (listed S.field (vectors_of S exps list)) (family S (vectors_of S exps list) (are_homogeneous cap_limit (vectors_of S exps list) h)) pair

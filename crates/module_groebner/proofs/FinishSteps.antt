@@ -1,15 +1,12 @@
 -- The members of a completion with nothing left to treat, as lists of terms, and the reduced basis that is made from them.
-use Rattle.std.proofs.Common.{◌≡◌, ℕ, ◌≤◌, List, [], ◌∷◌, map, sym, ap, ap₂, ◌∙◌, refl, subst, arith}
-use Rattle.std.specs.Prelude.{All}
-use Rattle.alg_core.specs.Fields.{FieldOn}
-use Rattle.alg_core.specs.Keys.{Key, KeyDivides}
+use Rattle.std.proofs.Common.{◌≡◌, ℕ, List, [], ◌∷◌, map, sym, ap, ap₂, ◌∙◌, refl, subst, arith}
 use Rattle.alg_core.specs.Lists.{In, map_in}
 use Rattle.alg_core.specs.declared.term.Term.{Term}
 use Rattle.alg_core.specs.Spaces.{SpaceOver, Fits, entries}
 use Rattle.alg_core.specs.SpaceOrder.{key_order}
 use Rattle.alg_core.specs.SpaceGrading.{AllPositive}
 use Rattle.alg_core.specs.Vectors.{Vect}
-use Rattle.poly_module.specs.Modules.{LeadBy, InModule, IsGroebnerBasis, listed}
+use Rattle.poly_module.specs.Modules.{IsGroebnerBasis, listed}
 use Rattle.poly_module.specs.ReducedLists.{IsReducedBasis}
 use Rattle.poly_module.specs.SpaceVectors.{IsVector, AreVectors, vectors_of}
 use Rattle.module_groebner.specs.HomogeneousLists.{cap_limit, AreHomogeneousUpTo, IsHomogeneousUpTo, AreNonzero}

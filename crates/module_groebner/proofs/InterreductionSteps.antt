@@ -1,5 +1,5 @@
 -- Lists with falling leads, minimal members, and the reduced basis from a Gröbner basis.
-use Rattle.std.proofs.Common.{◌≡◌, ◌⊎◌, inl, inr, ℕ, zero, suc, ◌<◌, ◌≤◌, ◌+◌, ◌-◌, get_or, List, [], ◌∷◌, ◌++◌, map, take, drop, length, sym, ap, ap₂, ◌∙◌, refl, subst, arith}
+use Rattle.std.proofs.Common.{◌≡◌, ◌⊎◌, inl, inr, ℕ, zero, suc, ◌<◌, ◌≤◌, ◌+◌, get_or, List, [], ◌∷◌, ◌++◌, map, length, sym, ap, ap₂, ◌∙◌, refl, subst, arith}
 use Rattle.std.specs.Prelude.{All}
 use Rattle.std.specs.List.{insert}
 use native.Mathlib.Decide.{ℕ_discrete, dec_le}
@@ -10,8 +10,8 @@ use Rattle.alg_core.specs.RingLaws as rings
 use Rattle.alg_core.specs.CanonicalLists.{indicator_yes, indicator_no}
 use Rattle.alg_core.specs.Fields.{FieldOn, Scalar, Has, scalars, scalar, scalar_mul, scalar_one, is_field}
 use Rattle.alg_core.specs.Keys.{Key, key, key_same, KeyDivides}
-use Rattle.alg_core.specs.KeyOrders.{OrderOn, less_irreflexive, less_transitive, Trichotomy, trichotomy}
-use Rattle.alg_core.specs.Leads.{has_lead, HasLead, lead_unique}
+use Rattle.alg_core.specs.KeyOrders.{OrderOn, less_irreflexive, less_transitive}
+use Rattle.alg_core.specs.Leads.{has_lead, HasLead}
 use Rattle.alg_core.specs.Lists.{In, in_left, in_right}
 use Rattle.alg_core.specs.declared.term.Term.{Term}
 use Rattle.alg_core.specs.Spaces.{SpaceOver, entries, entry, place}
@@ -32,10 +32,10 @@ use Rattle.poly_module.proofs.FittingKeys.{vec_fits_order}
 use Rattle.poly_module.proofs.KeyGrowth.{divisor_not_greater}
 use Rattle.poly_module.proofs.LeadLaws.{lead_act, lead_plus}
 use Rattle.poly_module.proofs.SpaceVectorLaws.{minus_plus, supp_minus}
-use Rattle.poly_module.proofs.Reduced.{divides_trans, place_of_member}
+use Rattle.poly_module.proofs.Reduced.{place_of_member}
 use Rattle.module_groebner.specs.HomogeneousLists.{degree_limit, cap_limit, AreNonzero, AreHomogeneousUpTo, IsHomogeneousUpTo}
 use Rattle.module_groebner.specs.Remainders.{IsRemainder, KeepsDegrees}
-use Rattle.module_groebner.specs.Interreductions.{HasLeadIn, IsDividedIn, AreApart, IsPlaceFor, IsTailReduced}
+use Rattle.module_groebner.specs.Interreductions.{HasLeadIn, IsDividedIn, HasMinimalLeads, IsPlaceFor, IsTailReduced}
 use Rattle.module_groebner.proofs.Sums.{not_greater_less}
 use Rattle.module_groebner.proofs.Remainders.{Irreducible, lead_falls, single_lead, remainder_difference, remainder_low}
 use Rattle.module_groebner.proofs.Families.{all_in, in_all, homogeneous_each, member_inside, inside_by_members, listed_in, listed_past, map_append, length_map}
@@ -152,7 +152,7 @@ module _ {E : Type 0} (S : SpaceOver E) where
     pub from_left : (w : Vect S.field) → In w left → In w given
     pub from : (w : Vect S.field) → In w kept → In w given
     pub below : (v w : Vect S.field) (s t : Key) → In v kept → In w left → LeadBy S.field (key_order S) v s → LeadBy S.field (key_order S) w t → (key_order S).compare s t ≡ Less
-    pub apart : AreApart S kept
+    pub apart : HasMinimalLeads S kept
     pub covers : (w : Vect S.field) (s : Key) → In w given → LeadBy S.field (key_order S) w s → In w left ⊎ IsDividedIn S kept s
 
   pub minimal_start : (given : List (Vect S.field)) → LeadsFall S.field (key_order S) given → Minimal given given []
@@ -319,7 +319,7 @@ module _ {E : Type 0} (S : SpaceOver E) where
       (falling_leads : (i : ℕ) (s : Key) → LeadBy S.field (key_order S) (listed S.field members i) s → HasLeadIn S falling s)
       (kept_from : (w : Vect S.field) → In w kept → In w falling)
       (kept_nonzero : (w : Vect S.field) → In w kept → ¬ (w ≡ zero_vector S.field))
-      (kept_apart : AreApart S kept)
+      (kept_apart : HasMinimalLeads S kept)
       (kept_covers : (w : Vect S.field) (s : Key) → In w falling → LeadBy S.field (key_order S) w s → IsDividedIn S kept s)
       (made_falls : LeadsFall S.field (key_order S) made)
       (made_from : (n : Vect S.field) → In n made → (i : ℕ) × (i < length kept) × IsTailReduced S (listed S.field kept) (listed S.field kept i) n)

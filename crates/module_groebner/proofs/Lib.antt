@@ -29,6 +29,7 @@ pub mod Existence
 pub mod ListLaws
 pub mod Transports
 pub mod CriterionSteps
+pub mod PairSearch
 pub mod BasisSteps
 pub mod InterreductionSteps
 pub mod FinishSteps

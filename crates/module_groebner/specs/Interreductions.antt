@@ -2,7 +2,7 @@
 --
 --   HasLeadIn S vs s          s is the lead of a vector of the list
 --   IsDividedIn S vs t        the lead of a vector of the list divides t
---   AreApart S vs             no lead of a vector of the list divides that of another
+--   HasMinimalLeads S vs      no lead of a vector of the list divides that of another
 --   IsPlaceFor S vs v i       i is the place of the list, with falling leads, where v belongs: the leads before it are greater
 --                             than that of v, and that at it is smaller
 --   IsTailReduced S g v n     n is in the module of g, monic, with the lead of v; no other key of it is a multiple of the lead of
@@ -27,8 +27,8 @@ module _ {E : Type 0} (S : SpaceOver E) where
     IsDividedIn t = (w : Vect S.field) × (s : Key) × In w vs × LeadBy S.field (key_order S) w s × KeyDivides s t
 
     -- no lead divides that of another
-    abbrev pub AreApart : Type 0
-    AreApart = (v w : Vect S.field) (s t : Key) → In v vs → In w vs → LeadBy S.field (key_order S) v s → LeadBy S.field (key_order S) w t → KeyDivides s t → v ≡ w
+    abbrev pub HasMinimalLeads : Type 0
+    HasMinimalLeads = (v w : Vect S.field) (s t : Key) → In v vs → In w vs → LeadBy S.field (key_order S) v s → LeadBy S.field (key_order S) w t → KeyDivides s t → v ≡ w
 
     -- where a vector belongs among those with falling leads
     pub record IsPlaceFor (v : Vect S.field) (i : ℕ) : Type 0 where

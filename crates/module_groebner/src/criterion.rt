@@ -13,6 +13,7 @@ use crate::division::divide;
 use crate::pair::s_vector;
 use crate::reduction::leading_term;
 use alg_core::{Field, Memory, Mono, Space, TermOrder};
+use itertools::Itertools;
 use poly_module::{Vector, are_equal, degree, lead};
 use std::alloc::Global;
 
@@ -70,11 +71,10 @@ pub fn first_bad_pair<F: Field, O: TermOrder>(
     ensures some { let S = over F.field O.order space.now in
         IfOk result (λ o. IfSome o (λ p. IsBadPair S (vectors_of S (λ m. m) list.now) p.0 p.1)) }
 {
-    'second: for j in 0..list.len() {
-        'first: for i in 0..j {
-            if is_bad(alloc, space, list, i, j)? {
-                return Ok(Some((i as u64 + 1, j as u64 + 1)));
-            }
+    for pair in (0..list.len()).tuple_combinations::<(usize, usize), Global>(alloc)? {
+        let (i, j) = pair?;
+        if is_bad(alloc, space, list, i, j)? {
+            return Ok(Some((i as u64 + 1, j as u64 + 1)));
         }
     }
     Ok(None)

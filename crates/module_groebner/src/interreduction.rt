@@ -8,7 +8,7 @@ ghost use Rattle.poly_module.specs.Modules.{LeadBy, listed, IsGroebnerBasis};
 ghost use Rattle.poly_module.specs.ReducedLists.{LeadsFall, IsReducedBasis};
 ghost use Rattle.poly_module.specs.SpaceVectors.{IsPositive, IsVector, AreVectors, vector_of, vectors_of};
 ghost use Rattle.module_groebner.specs.HomogeneousLists.{cap_limit, AreHomogeneousUpTo, AreNonzero};
-ghost use Rattle.module_groebner.specs.Interreductions.{HasLeadIn, IsDividedIn, AreApart, IsPlaceFor, IsTailReduced};
+ghost use Rattle.module_groebner.specs.Interreductions.{HasLeadIn, IsDividedIn, HasMinimalLeads, IsPlaceFor, IsTailReduced};
 
 use crate::division::{divide, divisor};
 use crate::reduction::leading_term;
@@ -152,7 +152,7 @@ fn minimal<F: Field, O: TermOrder>(
     ensures from { let S = over F.field O.order space.now in let of = vectors_of S (λ m. m) in IfOk result (λ vs.
         (w : Vect S.field) → In w (of vs.items) → In w (of falling.items)) }
     ensures apart { let S = over F.field O.order space.now in
-        IfOk result (λ vs. AreApart S (vectors_of S (λ m. m) vs.items)) }
+        IfOk result (λ vs. HasMinimalLeads S (vectors_of S (λ m. m) vs.items)) }
     ensures covers { let S = over F.field O.order space.now in let of = vectors_of S (λ m. m) in IfOk result (λ vs.
         (w : Vect S.field) (s : Key) → In w (of falling.items) → LeadBy S.field (key_order S) w s → IsDividedIn S (of vs.items) s) }
 {

@@ -1,4 +1,4 @@
-use Rattle.std.proofs.Common.{◌≡◌, ◌<◌, ℕ, length, sym, subst, arith}
+use Rattle.std.proofs.Common.{◌≡◌, sym, subst, arith}
 use Rattle.alg_core.specs.Keys.{Key}
 use Rattle.alg_core.specs.Lists.{In}
 use Rattle.alg_core.specs.Spaces.{over}
@@ -7,7 +7,7 @@ use Rattle.alg_core.specs.Vectors.{Vect, zero_vector}
 use Rattle.poly_module.specs.Modules.{LeadBy}
 use Rattle.poly_module.specs.SpaceVectors.{vector_of, vectors_of}
 use Rattle.module_groebner.specs.HomogeneousLists.{cap_limit, AreHomogeneousUpTo, IsHomogeneousUpTo, AreNonzero}
-use Rattle.module_groebner.specs.Interreductions.{IsDividedIn, AreApart}
+use Rattle.module_groebner.specs.Interreductions.{IsDividedIn, HasMinimalLeads}
 use Rattle.module_groebner.proofs.CriterionSteps.{are_homogeneous}
 use Rattle.module_groebner.proofs.Families.{length_map, all_in}
 use Rattle.module_groebner.proofs.InterreductionSteps.{all_from, made_homogeneous, made_reduced}
@@ -47,7 +47,7 @@ returns-clause-reduced g c =
     (each_homogeneous S (of c.args.members.now) (are_homogeneous S (λ m. m) cap_limit (of c.args.members.now) c.requires.homogeneous))
     c.in_ok-falling.ensures.from c.in_ok-falling.ensures.leads from
     (λ w i. all_in (λ u. ¬ (u ≡ zero_vector S.field)) (of c.args.members.now) c.requires.nonzero w (c.in_ok-falling.ensures.from w (from w i)))
-    (subst (λ l. AreApart S (vectors_of S (λ m. m) l)) back c.in_ok-kept.ensures.apart)
+    (subst (λ l. HasMinimalLeads S (vectors_of S (λ m. m) l)) back c.in_ok-kept.ensures.apart)
     (subst (λ l. (w : Vect S.field) (s : Key) → In w (of c.in_ok-falling.falling.items) → LeadBy S.field (key_order S) w s → IsDividedIn S (vectors_of S (λ m. m) l) s) back c.in_ok-kept.ensures.covers)
     b.falling (λ n i. let f = b.from n i in (f.0, (let h = f.1 in omega arith), f.2)) b.leads c.requires.basis
 
@@ -64,6 +64,6 @@ returns-clause-homogeneous g c =
     (each_homogeneous S (of c.args.members.now) (are_homogeneous S (λ m. m) cap_limit (of c.args.members.now) c.requires.homogeneous))
     c.in_ok-falling.ensures.from c.in_ok-falling.ensures.leads from
     (λ w i. all_in (λ u. ¬ (u ≡ zero_vector S.field)) (of c.args.members.now) c.requires.nonzero w (c.in_ok-falling.ensures.from w (from w i)))
-    (subst (λ l. AreApart S (vectors_of S (λ m. m) l)) back c.in_ok-kept.ensures.apart)
+    (subst (λ l. HasMinimalLeads S (vectors_of S (λ m. m) l)) back c.in_ok-kept.ensures.apart)
     (subst (λ l. (w : Vect S.field) (s : Key) → In w (of c.in_ok-falling.falling.items) → LeadBy S.field (key_order S) w s → IsDividedIn S (vectors_of S (λ m. m) l) s) back c.in_ok-kept.ensures.covers)
     b.falling (λ n i. let f = b.from n i in (f.0, (let h = f.1 in omega arith), f.2)) b.leads

@@ -1,5 +1,5 @@
-use Rattle.std.proofs.Common.{refl, sym, subst, arith}
-use Rattle.alg_core.specs.Keys.{key, KeyDivides}
+use Rattle.std.proofs.Common.{refl, subst}
+use Rattle.alg_core.specs.Keys.{key}
 use Rattle.alg_core.specs.Spaces.{over, place}
 use Rattle.poly_module.specs.SpaceVectors.{vector_of, vectors_of}
 use Rattle.module_groebner.specs.Interreductions.{IsDividedIn}

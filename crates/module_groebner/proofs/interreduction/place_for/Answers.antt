@@ -1,7 +1,7 @@
-use Rattle.std.proofs.Common.{ap, sym, ◌≡◌, arith}
+use Rattle.std.proofs.Common.{◌≡◌, arith}
 use Rattle.alg_core.specs.Spaces.{over}
 use Rattle.alg_core.specs.Vectors.{zero_vector}
-use Rattle.poly_module.specs.SpaceVectors.{vector_of, vectors_of}
+use Rattle.poly_module.specs.SpaceVectors.{vector_of}
 use Rattle.module_groebner.proofs.DivisionSteps.{member_has}
 use Rattle.module_groebner.proofs.InterreductionSteps.{place_end, place_equal, place_less, place_greater}
 use Rattle.module_groebner.proofs.interreduction.place_for.Goals as goal

@@ -1,9 +1,7 @@
 use Rattle.std.proofs.Common.{◌≡◌, ◌<◌, ℕ, length, arith}
-use Rattle.alg_core.specs.Keys.{Key}
 use Rattle.alg_core.specs.Spaces.{over}
-use Rattle.alg_core.specs.SpaceOrder.{key_order}
-use Rattle.alg_core.specs.Vectors.{Vect, zero_vector}
-use Rattle.poly_module.specs.Modules.{LeadBy, listed}
+use Rattle.alg_core.specs.Vectors.{zero_vector}
+use Rattle.poly_module.specs.Modules.{listed}
 use Rattle.poly_module.specs.SpaceVectors.{vector_of, vectors_of}
 use Rattle.module_groebner.specs.Interreductions.{IsTailReduced}
 use Rattle.module_groebner.proofs.Families.{listed_in, length_map, all_in}
