@@ -4,3 +4,15 @@ pub mod VariablePowers
 pub mod PowerTests
 pub mod LowImages
 pub mod PlacesOfPowers
+pub mod Reached
+pub mod MarkDegrees
+pub mod Rounds
+pub mod ReachedSteps
+pub mod RoundSteps
+pub mod PowerForms
+pub mod SpreadSteps
+pub mod Spanning
+pub mod ModuleTerms
+pub mod RelationLeads
+pub mod StandardTests
+pub mod Coordinates

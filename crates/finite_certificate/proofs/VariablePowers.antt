@@ -16,7 +16,7 @@ module _ {E : Type 0} (k : FieldOn E) where
   single_mul m n = ring_product k _ _ ∙ product_single k (0, m) (0, n)
 
   -- the exponent of the variable alone
-  power_single : (i e : ℕ) → variable_power k i e ≡ single_vector k (0, mono (after_zeros i (e ∷ [])))
+  pub power_single : (i e : ℕ) → variable_power k i e ≡ single_vector k (0, mono (after_zeros i (e ∷ [])))
   unfolding variable_vector
   power_single i zero = ring_one k ∙ one_vector_single k ∙ ap (λ m. single_vector k (0, m)) (sym (mono_zeros i))
   power_single i (suc e) =

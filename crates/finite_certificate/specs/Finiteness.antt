@@ -10,14 +10,18 @@
 --   powers_of S ps              the powers of the program, with their forms as vectors
 --   AreLow S ps                 polynomials of the space that have no degree over the limit
 --   IsLowPower S p              a power of the program with an exponent up to the limit, and a form that has no degree over it
+--   HasForm S p                 the form of a power of the program is homogeneous
+--   IsLowTerm S e               a term of the space with no degree over the limit
 use Rattle.std.specs.Prelude.{◌≡◌, ◌<◌, ◌≤◌, ◌+◌, ℕ, List, All, map, length, slice_index_or}
 use Rattle.alg_core.specs.Fields.{FieldOn}
 use Rattle.alg_core.specs.Monomials.{exponent}
-use Rattle.alg_core.specs.Keys.{Key}
-use Rattle.alg_core.specs.Vectors.{Vect, zero_vector}
+use Rattle.alg_core.specs.Keys.{Key, key}
+use Rattle.alg_core.specs.Vectors.{Entry, Vect, zero_vector}
 use Rattle.alg_core.specs.declared.term.Term.{Term}
-use Rattle.alg_core.specs.Spaces.{SpaceOver}
+use Rattle.alg_core.specs.Spaces.{SpaceOver, IsTerm}
+use Rattle.alg_core.specs.SpaceGrading.{degree}
 use Rattle.poly_module.specs.Parts.{Supp, IsPolynomial, InVariables}
+use Rattle.poly_module.specs.Degrees.{IsHomogeneous}
 use Rattle.poly_module.specs.Combinations.{mark_value}
 use Rattle.poly_module.specs.Marks.{IsMixed}
 use Rattle.poly_module.specs.SpaceVectors.{IsPoly, IsUpTo, vector_of}
@@ -39,6 +43,13 @@ module _ {E : Type 0} (S : SpaceOver E) where
     pub exponent : p.exponent ≤ degree_limit
     pub poly : IsPoly S (λ m. m) p.form
     pub low : IsUpTo S degree_limit (vector_of S (λ m. m) p.form)
+
+  abbrev pub HasForm : Power E → Type 0
+  HasForm p = (d : ℕ) × IsHomogeneous S d (vector_of S (λ m. m) p.form)
+
+  pub record IsLowTerm (e : Entry E) : Type 0 where
+    pub is_term : IsTerm S e
+    pub low : degree S (key e.0) ≤ degree_limit
 
 module _ {E : Type 0} (k : FieldOn E) (n : ℕ) (θ : List (Vect k)) where
   -- the power of a variable is the value of a form in the marks

@@ -3,6 +3,8 @@
 --   IsStandard k n θ m              the monomial m is the lead of no element of the ideal of θ, by degree reverse lexicographic
 --                                   order of n variables
 --   IsStandardForm k n θ u          the part in the first n variables of each key of u is standard
+--   IsLeadMultiple k o gs t         the lead by the order o of some member of gs divides the key t
+--   LeadsDivide k o U gs            the members of gs lie in the set U, and the lead of each element of U is a multiple of theirs
 --   Rise n B                        the lists of n exponents rise by that order
 --   AreStandardMonomials k n θ B    B are the standard monomials in n variables, by their exponents and rising
 --   IsOverRank k n θ m              there are more than m of them: some m + 1
@@ -17,6 +19,8 @@ use Rattle.alg_core.specs.Monomials.{Mon, monomials, mono, exponents}
 use Rattle.alg_core.specs.MonomialParts.{variable_part}
 use Rattle.alg_core.specs.PolynomialSpaces.{plain_space}
 use Rattle.alg_core.specs.DpOrder.{dp_compare}
+use Rattle.alg_core.specs.Keys.{Key, KeyDivides}
+use Rattle.alg_core.specs.KeyOrders.{OrderOn}
 use Rattle.alg_core.specs.Lists.{In}
 use Rattle.alg_core.specs.Vectors.{Vect, zero_vector}
 use Rattle.alg_core.specs.SpaceOrder.{key_order}
@@ -30,6 +34,16 @@ use Rattle.finite_certificate.specs.Ideals.{InIdeal}
 abbrev pub Rise : ℕ → List (List ℕ) → Type 0
 Rise n [] = Unit {0}
 Rise n (a ∷ B) = ((b : List ℕ) → In b B → dp_compare (replicate n 1) (0, a) (0, b) ≡ Less) × Rise n B
+
+module _ {E : Type 0} (k : FieldOn E) (o : OrderOn Key) where
+  -- a multiple of the lead of a member
+  abbrev pub IsLeadMultiple : List (Vect k) → Key → Type 0
+  IsLeadMultiple gs t = (g : Vect k) × In g gs × (s : Key) × LeadBy k o g s × KeyDivides s t
+
+  -- elements whose leads divide the leads of all
+  pub record LeadsDivide (U : Vect k → Type 0) (gs : List (Vect k)) : Type 0 where
+    pub elements : (g : Vect k) → In g gs → U g
+    pub divided : (f : Vect k) (t : Key) → U f → LeadBy k o f t → IsLeadMultiple gs t
 
 module _ {E : Type 0} (k : FieldOn E) (n : ℕ) (θ : List (Vect k)) where
   -- the lead of no element of the ideal
