@@ -2,13 +2,13 @@
 use Rattle.std.proofs.Common.{◌≡◌, ◌≢◌, ◌⊎◌, inl, inr, ℕ, zero, suc, ◌+◌, ◌-◌, ◌<◌, ◌≤◌, List, [], ◌∷◌, ◌++◌, length, map, refl, sym, ap, subst, ◌∙◌, arith}
 use Rattle.std.specs.Prelude.{All}
 use Rattle.std.proofs.lemmas.Bool.{cases_lt}
-use Rattle.std.proofs.lemmas.List.{length-append, length-map, map-append}
+use Rattle.std.proofs.lemmas.List.{length-append, map-append}
 use Rattle.std.proofs.lemmas.List.Elements.{All-nil, All-cons, All-head, All-tail, All-append}
 use Rattle.alg_core.specs.Binomials.{monomials_of_degree}
 use Rattle.alg_core.specs.Lists.{In}
 use Rattle.alg_core.specs.SpaceGrading.{height}
 use Rattle.alg_core.specs.SpaceOrder.{key_order}
-use Rattle.alg_core.specs.Spaces.{SpaceOver, entries}
+use Rattle.alg_core.specs.Spaces.{SpaceOver}
 use Rattle.alg_core.specs.Vectors.{Vect, zero_vector}
 use Rattle.alg_core.specs.declared.term.Term.{Term}
 use Rattle.alg_core.proofs.Members.{from_map}
@@ -23,7 +23,7 @@ use Rattle.invariant_space.specs.InvariantSpaces.{IsEchelonBasis}
 use Rattle.secondary_gens.specs.Choices.{IsLongerBy}
 use Rattle.secondary_gens.specs.Forms.{degree_of, degrees_of, unit_weights, IsSmallForm, IsPositiveForm}
 use Rattle.secondary_gens.specs.Secondaries.{IsComplete, IsIrredundant, AreSecondaries, IsDegreeIn, IsPastBound, IsFirstPast}
-use Rattle.secondary_gens.proofs.FormDegrees.{are_forms, positive_small, all_positive, form_image, image_form}
+use Rattle.secondary_gens.proofs.FormDegrees.{are_forms, positive_small, all_positive, form_image}
 use Rattle.secondary_gens.proofs.ImageSteps.{Generate, IsFixed, walked_past, walked_complete, are_secondaries}
 use Rattle.secondary_gens.proofs.Irredundant.{irredundant, keeps_fresh, fresh_none}
 use Rattle.secondary_gens.proofs.Lists.{height_front}
@@ -52,7 +52,7 @@ height_all P [] q h a = absurd (omega arith)
 height_all P (e ∷ es) zero h a = All-head P e es a
 height_all P (e ∷ es) (suc q) h a = height_all P es q (omega arith) (All-tail P e es a)
 
-rises_more : (d : ℕ) (es fs : List ℕ) → Rises es → All (λ e. e ≤ d) es → All (λ e. e ≡ d) fs → Rises (es ++ fs)
+pub rises_more : (d : ℕ) (es fs : List ℕ) → Rises es → All (λ e. e ≤ d) es → All (λ e. e ≡ d) fs → Rises (es ++ fs)
 rises_more d es fs r low same i j a l = go (cases_lt j (length es)) (cases_lt i (length es))
   where
     n : length (es ++ fs) ≡ length es + length fs
@@ -70,7 +70,7 @@ all_map : {A B : Type 0} (f : A → B) (P : B → Type 0) (l : List A) → All (
 all_map f P [] h = All-nil P
 all_map f P (a ∷ l) h = All-cons P (f a) (map f l) (All-head (λ a. P (f a)) a l h) (all_map f P l (All-tail (λ a. P (f a)) a l h))
 
-all_weaken : {A : Type 0} (P Q : A → Type 0) (l : List A) → ((a : A) → P a → Q a) → All P l → All Q l
+pub all_weaken : {A : Type 0} (P Q : A → Type 0) (l : List A) → ((a : A) → P a → Q a) → All P l → All Q l
 all_weaken P Q l w h i d q = w _ (h i d q)
 
 module _ {E : Type 0} (S : SpaceOver E) (gens : List (Matrix E)) where

@@ -50,7 +50,7 @@ split_append (x ∷ L) M (y ∷ front) t back e = go (let rest : L ++ M ≡ fron
     go (inr f) s = inr (f.0, ap₂ (λ z l. z ∷ l) (sym s) f.1, f.2)
 
 -- in a list that falls, what stands after a member is smaller
-falls_back : {T : Type 0} (o : OrderOn T) (front : List T) (t : T) (back : List T) → Falls o (front ++ t ∷ back) → (s : T) → In s back → o.compare s t ≡ Less
+pub falls_back : {T : Type 0} (o : OrderOn T) (front : List T) (t : T) (back : List T) → Falls o (front ++ t ∷ back) → (s : T) → In s back → o.compare s t ≡ Less
 falls_back o [] t back h s i = h.0 s i
 falls_back o (x ∷ front) t back h s i = falls_back o front t back h.1 s i
 

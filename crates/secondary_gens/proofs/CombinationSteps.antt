@@ -1,13 +1,13 @@
 -- Sums of multiples of combinations, and a term less such a sum.
 use Rattle.std.proofs.Common.{◌≡◌, ℕ, zero, suc, ◌+◌, ◌<◌, ◌≤◌, List, [], ◌∷◌, ◌++◌, inl, inr, length, map, get_or, take, sym, ap, ap₂, ◌∙◌, refl, subst, arith}
-use Rattle.std.specs.Prelude.{All, ◌==◌, ◌↔◌, Bool, true, false, IsTrue}
+use Rattle.std.specs.Prelude.{All, ◌==◌, Bool, true, false, IsTrue}
 use Rattle.std.proofs.lemmas.Bool.Decides.{nat_tests}
 use Rattle.std.proofs.lemmas.List.{take_more, take_all, map-append, length-map, length-take-le}
-use Rattle.alg_core.specs.Fields.{FieldOn, Scalar, Has, scalar, scalars, scalar_one}
+use Rattle.alg_core.specs.Fields.{FieldOn, scalar, scalars, scalar_one}
 use Rattle.alg_core.specs.FreeModules.{single}
 use Rattle.alg_core.specs.Keys.{Key, key, key_same}
 use Rattle.alg_core.specs.Lists.{In, map_in}
-use Rattle.alg_core.specs.Spaces.{SpaceOver, Fits, IsPlace, entries, entry, place}
+use Rattle.alg_core.specs.Spaces.{SpaceOver, Fits, IsPlace, entries, place}
 use Rattle.alg_core.specs.Spans.{combine}
 use Rattle.alg_core.specs.Vectors.{Vect, vec, vectors, plus, scale, zero_vector}
 use Rattle.alg_core.specs.declared.term.Term.{Term}
@@ -15,8 +15,8 @@ use Rattle.alg_core.specs.declared.term.ModTerm.{ModTerm}
 use Rattle.alg_core.proofs.VectorLaws.{vec_single, vec_nothing}
 use Rattle.poly_module.specs.Polynomials.{single_vector}
 use Rattle.poly_module.specs.Signs.{minus}
-use Rattle.poly_module.specs.SpaceVectors.{vector_of, vectors_of, IsVector, IsVectorOf}
-use Rattle.secondary_gens.specs.Columns.{IsColumns, key_of, keys_of}
+use Rattle.poly_module.specs.SpaceVectors.{vector_of, IsVector, IsVectorOf}
+use Rattle.secondary_gens.specs.Columns.{IsColumns, key_of}
 use Rattle.secondary_gens.specs.PrintedCombinations.{combination_space}
 use Rattle.secondary_gens.specs.declared.columns.Column.{Column}
 use Rattle.secondary_gens.proofs.OverSteps.{exact_by, not_true}

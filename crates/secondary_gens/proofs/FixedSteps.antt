@@ -1,5 +1,5 @@
 -- What a walk keeps is among the members along which it goes, so that secondary invariants are invariants.
-use Rattle.std.proofs.Common.{◌≡◌, ◌⊎◌, inl, inr, ℕ, zero, suc, List, [], ◌∷◌, ◌++◌, map, refl, subst}
+use Rattle.std.proofs.Common.{◌⊎◌, inl, inr, ℕ, zero, suc, List, [], ◌∷◌, ◌++◌, refl, subst}
 use Rattle.std.specs.Prelude.{All}
 use Rattle.std.proofs.lemmas.List.Elements.{All-nil, All-cons}
 use Rattle.alg_core.specs.Lists.{In}
@@ -33,7 +33,7 @@ module _ {A : Type 0} (Skips : List A → A → Type 0) where
       go (inr j) = inr (inr j)
 
 module _ {E : Type 0} (S : SpaceOver E) (gens : List (Matrix E)) where
-  bases_fixed : (d : ℕ) (fs : List (Vect S.field)) → AreBases S gens d fs → (v : Vect S.field) → In v fs → Invariant S.field gens v
+  pub bases_fixed : (d : ℕ) (fs : List (Vect S.field)) → AreBases S gens d fs → (v : Vect S.field) → In v fs → Invariant S.field gens v
   bases_fixed zero fs e v i = absurd (subst (In v) e i)
   bases_fixed (suc d) fs b v i =
       elim (in_cases v b.0 b.1 (subst (In v) b.4 i)) [ inl j ↦ bases_fixed d b.0 b.2 v j | inr j ↦ (b.3.reduced.inside v j).invariant ]

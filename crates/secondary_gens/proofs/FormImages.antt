@@ -1,5 +1,5 @@
 -- Products of forms with their terms are forms, with small exponents.
-use Rattle.std.proofs.Common.{◌≡◌, ℕ, ◌+◌, ◌≤◌, List, length, replicate, sym, ap, ap₂, subst, ◌∙◌, arith}
+use Rattle.std.proofs.Common.{◌≡◌, ℕ, ◌+◌, ◌≤◌, List, length, replicate, sym, ap, ap₂, subst, ◌∙◌}
 use Rattle.std.specs.Prelude.{All}
 use Rattle.alg_core.specs.ExponentLists.{product as list_product, Within}
 use Rattle.alg_core.specs.Keys.{key}
@@ -10,7 +10,6 @@ use Rattle.alg_core.specs.Spaces.{SpaceOver, entries, Fits}
 use Rattle.poly_module.specs.Parts.{Supp, supp_product, supp_single}
 use Rattle.poly_module.specs.Polynomials.{single_vector, one_vector, product}
 use Rattle.poly_module.specs.Products.{one_vector_single}
-use Rattle.poly_module.specs.MonomialVariables.{variable}
 use Rattle.poly_module.specs.SpaceVectors.{IsPolyOf}
 use Rattle.poly_module.proofs.ConstantSteps.{length_zeros, mono_zeros}
 use Rattle.poly_module.proofs.ExponentBounds.{Bounded, bounded_products, fits_keys}

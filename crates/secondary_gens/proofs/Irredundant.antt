@@ -218,9 +218,9 @@ module _ {E : Type 0} (k : FieldOn E) (θ : List (Vect k)) where
   forms_remove ws [] [] zero h = tt
   forms_remove ws [] [] (suc j) h = tt
   forms_remove ws [] (t ∷ T) j h = absurd h
-  forms_remove ws (e ∷ es) [] j h = absurd h
-  forms_remove ws (e ∷ es) (t ∷ T) zero h = h.1
-  forms_remove ws (e ∷ es) (t ∷ T) (suc j) h = (h.0, forms_remove ws es T j h.1)
+  forms_remove ws (d ∷ ds) [] j h = absurd h
+  forms_remove ws (d ∷ ds) (t ∷ T) zero h = h.1
+  forms_remove ws (d ∷ ds) (t ∷ T) (suc j) h = (h.0, forms_remove ws ds T j h.1)
 
   height_drop : (es : List ℕ) (n j : ℕ) → n ≤ length es → height (drop n es) j ≡ height es (n + j)
   unfolding height

@@ -1,12 +1,12 @@
 -- The candidates of one degree, one after another: which are kept.
-use Rattle.std.proofs.Common.{◌≡◌, ◌≢◌, ℕ, ◌+◌, ◌<◌, ◌≤◌, List, [], ◌∷◌, ◌++◌, length, map, max, get_or, take, refl, sym, ap, subst, ◌∙◌, arith, append_assoc}
+use Rattle.std.proofs.Common.{◌≡◌, ◌≢◌, ℕ, ◌+◌, ◌<◌, ◌≤◌, List, [], ◌∷◌, ◌++◌, length, map, get_or, take, refl, sym, ap, subst, ◌∙◌, arith, append_assoc}
 use Rattle.std.specs.Prelude.{All}
 use Rattle.std.proofs.lemmas.List.{take_more, take_all, map-append, append-nil}
 use Rattle.std.proofs.lemmas.List.Elements.{All-nil, All-push, All-head, All-tail}
 use Rattle.alg_core.specs.Keys.{key}
 use Rattle.alg_core.specs.SpaceOrder.{key_order}
 use Rattle.alg_core.specs.Spaces.{SpaceOver, Fits, IsTerm, entries}
-use Rattle.alg_core.specs.Vectors.{Vect, Entry, vec, zero_vector}
+use Rattle.alg_core.specs.Vectors.{Vect, Entry, vec}
 use Rattle.alg_core.specs.declared.term.Term.{Term}
 use Rattle.alg_core.proofs.VectorLaws.{vec_nothing}
 use Rattle.secondary_gens.proofs.MonomialDegrees.{of_exponents}

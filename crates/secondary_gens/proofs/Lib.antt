@@ -20,3 +20,7 @@ pub mod KeepSteps
 pub mod ChoiceSteps
 pub mod DegreeSearch
 pub mod FixedSteps
+pub mod SecondaryLaws
+pub mod OnePrinted
+pub mod SecondaryDegrees
+pub mod SomePrinted

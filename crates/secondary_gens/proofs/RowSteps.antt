@@ -3,17 +3,17 @@ use Rattle.std.proofs.Common.{◌≡◌, ℕ, ◌+◌, ◌<◌, ◌≤◌, List,
 use Rattle.std.specs.Prelude.{All}
 use Rattle.std.proofs.lemmas.List.{take_more, map-append, take-append-drop, drop_more, take_all}
 use Rattle.std.proofs.lemmas.List.Elements.{All-push}
-use Rattle.alg_core.specs.Fields.{Has, scalar, scalars, scalar_mul, scalar_one}
+use Rattle.alg_core.specs.Fields.{Has, scalar, scalars, scalar_mul, scalar_one, scalar_zero}
 use Rattle.alg_core.specs.Keys.{Key}
 use Rattle.alg_core.specs.Spaces.{SpaceOver, Fits, IsPlace, IsTerm, place, entry, entries}
-use Rattle.alg_core.specs.Vectors.{Vect, vec, vectors, coef_at, scale, zero_vector}
+use Rattle.alg_core.specs.Vectors.{Vect, vec, vectors, coef_at, plus, scale, zero_vector}
 use Rattle.alg_core.specs.declared.term.Term.{Term}
-use Rattle.alg_core.proofs.VectorLaws.{coef_at_scale}
+use Rattle.alg_core.proofs.VectorLaws.{coef_at_scale, plus_zero}
 use Rattle.poly_module.specs.Echelons.{Spans}
 use Rattle.poly_module.specs.Parts.{supp_scale}
 use Rattle.poly_module.specs.Signs.{minus}
 use Rattle.poly_module.specs.SpaceVectors.{vector_of, IsVectorOf, IsPoly}
-use Rattle.poly_module.proofs.SpaceVectorLaws.{is_polynomial, poly_given, poly_of, supp_minus}
+use Rattle.poly_module.proofs.SpaceVectorLaws.{is_polynomial, minus_unique, poly_given, poly_of, supp_minus}
 use Rattle.secondary_gens.specs.declared.elimination.Row.{Row}
 use Rattle.secondary_gens.specs.Eliminations.{IsTriangular, IsReducedBy, IsEchelonOf, line_of, lines_of, IsRowOver}
 use Rattle.secondary_gens.proofs.Triangular.{reduced_none, reduced_more, echelon_same, echelon_more, fresh, spanned}
@@ -39,6 +39,14 @@ module _ {E : Type 0} (S : SpaceOver E) where
     position = subst (λ es. All (λ f. f.0.0 ≡ 0) es) (sym e) h.position;
   }
 
+  -- a polynomial less a multiple of a row
+  pub less_zero : (v : Terms) (factor : E) (u : Vect S.field) → factor ≡ S.field.zero → x v ≡ minus S.field (x v) (scale S.field factor u)
+  unfolding scale zero_vector
+  less_zero v factor u zero = minus_unique S.field (x v) (x v) (scale S.field factor u) (ap (plus S.field (x v)) (ap (λ c. (vectors S.field).◌·◌ c u) (ap (scalar S.field) zero ∙ scalar_zero S.field) ∙ (vectors S.field).zero_act u) ∙ plus_zero S.field (x v))
+
+  pub less_other : (v w multiple : Terms) (u : Vect S.field) → IsVectorOf S (λ m. m) u multiple → IsVectorOf S (λ m. m) (minus S.field (x v) (x multiple)) w → x w ≡ minus S.field (x v) u
+  less_other v w multiple u times less = less.is ∙ ap (minus S.field (x v)) times.is
+
   -- so far the multiples of the first rows are taken away
   pub record Taken (rows : List (Row E)) (v : Terms) (i : ℕ) (rest : Terms) (factors : List E) : Type 0 where
     pub polynomial : IsPoly S (λ m. m) rest
@@ -60,12 +68,11 @@ module _ {E : Type 0} (S : SpaceOver E) where
     lines_split : lines_of S rows ≡ lines_of S (take i rows) ++ line_of S r ∷ lines_of S (drop (i + 1) rows)
     lines_split = ap (lines_of S) (sym (take-append-drop i rows) ∙ ap (λ l. take i rows ++ l) (drop_more rows i r inside ∙ ap (λ y. y ∷ drop (i + 1) rows) (sym read))) ∙ map-append (line_of S) (take i rows) (r ∷ drop (i + 1) rows)
 
-    pub taken_more : (v rest multiple new : Terms) (factor : E) (factors more : List E) → IsTriangular S.field (lines_of S rows) → IsRowOver S r
-        → Has S.field factor → scalar S.field factor ≡ coef_at S.field (x rest) (line_of S r).0 → IsVectorOf S (λ m. m) (scale S.field factor (x r.vector)) multiple
-        → IsVectorOf S (λ m. m) (minus S.field (x rest) (x multiple)) new → more ≡ factors ++ factor ∷ [] → Taken rows v i rest factors → Taken rows v (i + 1) new more
+    pub taken_more : (v rest new : Terms) (factor : E) (factors more : List E) → IsTriangular S.field (lines_of S rows) → Has S.field factor → scalar S.field factor ≡ coef_at S.field (x rest) (line_of S r).0
+        → IsPoly S (λ m. m) new → x new ≡ minus S.field (x rest) (scale S.field factor (x r.vector)) → more ≡ factors ++ factor ∷ [] → Taken rows v i rest factors → Taken rows v (i + 1) new more
     unfolding scale
-    taken_more v rest multiple new factor factors more triangular row has value times less push was = record {
-      polynomial = difference_poly rest multiple new was.polynomial (multiple_poly factor r.vector multiple row.polynomial times) less;
+    taken_more v rest new factor factors more triangular has value polynomial less push was = record {
+      polynomial = polynomial;
       has = subst (All (Has S.field)) (sym push) (All-push (Has S.field) factors factor was.has has);
       reduced = subst (λ fs. IsReducedBy S.field (lines_of S (take (i + 1) rows)) (x v) (x new) (map (scalar S.field) fs)) (sym push)
           (subst (λ fs. IsReducedBy S.field (lines_of S (take (i + 1) rows)) (x v) (x new) fs) (sym (map-append (scalar S.field) factors (factor ∷ [])))
@@ -77,7 +84,7 @@ module _ {E : Type 0} (S : SpaceOver E) where
     }
       where
         left : x new ≡ minus S.field (x rest) ((vectors S.field).◌·◌ (coef_at S.field (x rest) (line_of S r).0) (line_of S r).1)
-        left = less.is ∙ ap (minus S.field (x rest)) (times.is ∙ ap (λ c. (vectors S.field).◌·◌ c (x r.vector)) value)
+        left = less ∙ ap (λ c. minus S.field (x rest) ((vectors S.field).◌·◌ c (x r.vector))) value
 
   pub taken_all : (rows : List (Row E)) (v rest : Terms) (i : ℕ) (factors : List E) → length rows ≤ i → Taken rows v i rest factors
       → IsReducedBy S.field (lines_of S rows) (x v) (x rest) (map (scalar S.field) factors)

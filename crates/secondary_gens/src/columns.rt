@@ -15,7 +15,7 @@ use std::alloc::Global;
 
 /// A term of a combination, and its value.
 #[derive(Drop)]
-pub(crate) struct Column<E> {
+pub struct Column<E> {
     pub(crate) at: ModTerm<Mono>,
     pub(crate) value: Poly<E>,
 }
@@ -58,7 +58,7 @@ fn add_columns<F: Field, O: TermOrder>(
 /// The terms of degree `d` of combinations over primary invariants and the polynomials, in the order in which
 /// a combination is chosen, with their values. The products of primary invariants that it needs are added to
 /// `levels`.
-pub(crate) fn columns<F: Field, O: TermOrder>(
+pub fn columns<F: Field, O: TermOrder>(
     alloc: Global,
     space: &Space<F, O>,
     order: &Dp,
@@ -94,7 +94,7 @@ pub(crate) fn columns<F: Field, O: TermOrder>(
 }
 
 /// The rows of the values of columns.
-pub(crate) fn rows_of<F: Field, O: TermOrder>(
+pub fn rows_of<F: Field, O: TermOrder>(
     alloc: Global,
     space: &Space<F, O>,
     columns: &[Column<F::Elem>],

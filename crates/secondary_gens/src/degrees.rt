@@ -7,7 +7,7 @@ use poly_module::Poly;
 use std::alloc::Global;
 
 /// The degree of a homogeneous polynomial, where each variable has the degree 1: 0 for 0.
-pub(crate) fn degree<F: Field, O: TermOrder>(space: &Space<F, O>, p: &Poly<F::Elem>) -> u32
+pub fn degree<F: Field, O: TermOrder>(space: &Space<F, O>, p: &Poly<F::Elem>) -> u32
     requires form { IsSmallForm (over F.field O.order space.now) p.now }
     ensures is { result ≡ degree_of p.now }
 {
@@ -25,7 +25,7 @@ pub(crate) fn degree<F: Field, O: TermOrder>(space: &Space<F, O>, p: &Poly<F::El
 }
 
 /// The degrees of homogeneous polynomials.
-pub(crate) fn degrees<F: Field, O: TermOrder>(
+pub fn degrees<F: Field, O: TermOrder>(
     alloc: Global,
     space: &Space<F, O>,
     ps: &[Poly<F::Elem>],

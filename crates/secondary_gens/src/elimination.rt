@@ -2,18 +2,19 @@ ghost use Rattle.std.specs.Prelude.{◌≡◌, ◌≢◌, ◌↔◌, ◌∷◌, 
 ghost use Rattle.alg_core.specs.Fields.{Has, scalar, scalars};
 ghost use Rattle.alg_core.specs.Keys.{key};
 ghost use Rattle.alg_core.specs.Spaces.{over, place};
-ghost use Rattle.alg_core.specs.Vectors.{Vect, vectors, coef_at, zero_vector};
+ghost use Rattle.alg_core.specs.Vectors.{Vect, vectors, coef_at, zero_vector, scale as times};
 ghost use Rattle.poly_module.specs.Echelons.{Spans};
+ghost use Rattle.poly_module.specs.Signs.{minus};
 ghost use Rattle.poly_module.specs.SpaceVectors.{vector_of, IsPoly};
 ghost use Rattle.secondary_gens.specs.Eliminations.{IsTriangular, IsReducedBy, IsEchelonOf, line_of, lines_of, IsRowOver};
 
-use alg_core::{Field, Memory, ModTerm, Mono, Space, TermOrder};
+use alg_core::{Field, Memory, ModTerm, Mono, Space, TermOrder, is_zero};
 use poly_module::{Poly, add, coefficient, copy, lead, scale, sub};
 use std::alloc::Global;
 
 /// A polynomial that is 1 at the pivot; each later row is 0 there.
 #[derive(Drop)]
-pub(crate) struct Row<E> {
+pub struct Row<E> {
     pub(crate) pivot: ModTerm<Mono>,
     pub(crate) vector: Poly<E>,
 }
@@ -23,6 +24,29 @@ pub(crate) struct Row<E> {
 pub(crate) struct Reduced<E> {
     pub(crate) rest: Poly<E>,
     pub(crate) factors: Vec<E>,
+}
+
+/// A polynomial less a multiple of a row.
+fn less_multiple<F: Field, O: TermOrder>(
+    alloc: Global,
+    space: &Space<F, O>,
+    v: Poly<F::Elem>,
+    factor: F::Elem,
+    row: &Row<F::Elem>,
+) -> Result<Poly<F::Elem>, Memory>
+    requires row { IsRowOver (over F.field O.order space.now) row.now }
+    requires polynomial { IsPoly (over F.field O.order space.now) (λ m. m) v }
+    requires factor { Has (F.field space.now.field) factor }
+    ensures polynomial { IfOk result (IsPoly (over F.field O.order space.now) (λ m. m)) }
+    ensures difference { let S = over F.field O.order space.now in let x = vector_of S (λ m. m) in
+        IfOk result (λ w. x w ≡ minus S.field (x v) (times S.field factor (x row.now.vector))) }
+{
+    if is_zero(&space.field, factor) {
+        return Ok(v);
+    }
+    let multiple = scale(alloc, space, factor, &row.vector)?;
+    let left = sub(alloc, space, &v, &multiple)?;
+    Ok(left)
 }
 
 /// Takes multiples of the rows away from a polynomial, in order.
@@ -45,8 +69,7 @@ pub(crate) fn reduce<F: Field, O: TermOrder>(
     for i in 0..rows.len() {
         let row = &rows[i];
         let factor = coefficient(space, &rest, &row.pivot);
-        let multiple = scale(alloc, space, factor, &row.vector)?;
-        rest = sub(alloc, space, &rest, &multiple)?;
+        rest = less_multiple(alloc, space, rest, factor, row)?;
         factors.push(factor)?;
     }
     Ok(Reduced { rest, factors })
@@ -81,7 +104,7 @@ pub(crate) fn row_of<F: Field, O: TermOrder>(
 }
 
 /// Adds a row for a polynomial that is not in the span of the rows, and tells whether it was not.
-pub(crate) fn absorb<F: Field, O: TermOrder>(
+pub fn absorb<F: Field, O: TermOrder>(
     alloc: Global,
     space: &Space<F, O>,
     rows: &mut Vec<Row<F::Elem>>,

@@ -3,16 +3,16 @@
 #![tactic(auto)]
 
 mod choice;
-mod columns;
+pub mod columns;
 mod combination;
-mod degrees;
-mod elimination;
+pub mod degrees;
+pub mod elimination;
 mod keeping;
 mod laws;
 mod products;
-mod redundance;
+pub mod redundance;
 
 pub use choice::choose;
 pub use combination::combine;
-pub use laws::kept_lists;
+pub use laws::{kept_lists, printed_combinations, secondary_invariants};
 pub use redundance::first_redundant;

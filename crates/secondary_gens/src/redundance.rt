@@ -53,7 +53,7 @@ fn is_over<F: Field, O: TermOrder>(
 }
 
 /// Adds copies of polynomials.
-fn push_copies<E: Copy>(
+pub fn push_copies<E: Copy>(
     alloc: Global,
     copies: &mut Vec<Poly<E>>,
     polynomials: &[Poly<E>],
@@ -67,7 +67,11 @@ fn push_copies<E: Copy>(
 }
 
 /// Copies of the polynomials but that at a place, from 0.
-fn others<E: Copy>(alloc: Global, polynomials: &[Poly<E>], j: usize) -> Result<Vec<Poly<E>>, Memory>
+pub fn others<E: Copy>(
+    alloc: Global,
+    polynomials: &[Poly<E>],
+    j: usize,
+) -> Result<Vec<Poly<E>>, Memory>
     requires place { j < length polynomials.now }
     ensures copies { let a = map (entries (λ m. m)) in IfOk result (λ ps. a ps.items ≡ a (remove polynomials.now j)) }
 {

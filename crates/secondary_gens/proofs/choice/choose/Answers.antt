@@ -1,4 +1,4 @@
-use Rattle.std.proofs.Common.{◌≡◌, ◌+◌, ◌<◌, map, refl, sym, subst, arith}
+use Rattle.std.proofs.Common.{◌+◌, ◌<◌, map, sym, subst, arith}
 use Rattle.std.specs.Prelude.{All}
 use Rattle.alg_core.specs.Spaces.{over}
 use Rattle.poly_module.specs.Combinations.{Over}

@@ -1,7 +1,6 @@
-use Rattle.std.proofs.Common.{◌≡◌, ◌+◌, ◌≤◌, take, refl, sym, subst, arith}
-use Rattle.std.specs.Prelude.{All}
+use Rattle.std.proofs.Common.{sym, subst, arith}
 use Rattle.alg_core.specs.Spaces.{over}
-use Rattle.secondary_gens.specs.Forms.{degree_of, IsSmallForm}
+use Rattle.secondary_gens.specs.Forms.{IsSmallForm}
 use Rattle.secondary_gens.proofs.DegreeSearch.{greatest_more, greatest_all}
 use Rattle.secondary_gens.proofs.choice.greatest_degree.Goals as goal
 use Rattle.secondary_gens.proofs.choice.greatest_degree.Goals.{then-d-greatest, else-d-greatest}

@@ -1,4 +1,4 @@
-use Rattle.std.proofs.Common.{◌≡◌, refl, sym, inl, inr, arith, rules}
+use Rattle.std.proofs.Common.{inl, inr, arith, rules}
 use Rattle.secondary_gens.proofs.CombinationSteps.{nothing_left, something_left}
 use Rattle.secondary_gens.proofs.DegreeSearch.{degree_found, degree_more}
 use Rattle.secondary_gens.proofs.choice.has_degree.Goals as goal

@@ -1,4 +1,3 @@
-use Rattle.std.proofs.Common.{◌≡◌, refl}
 use Rattle.alg_core.specs.DpOrder.{dp_order}
 use Rattle.alg_core.specs.Spaces.{over}
 use Rattle.secondary_gens.proofs.CombinationSteps.{combination_made}

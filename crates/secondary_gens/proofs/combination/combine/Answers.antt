@@ -1,10 +1,10 @@
-use Rattle.std.proofs.Common.{◌≡◌, ◌∙◌, [], length, map, refl, sym, ap, ap₂, subst}
+use Rattle.std.proofs.Common.{◌≡◌, ◌∙◌, map, sym, ap, ap₂, subst}
 use Rattle.alg_core.specs.DpOrder.{dp_order}
 use Rattle.alg_core.specs.Fields.{scalar}
 use Rattle.alg_core.specs.Spaces.{SpaceOver, over}
 use Rattle.poly_module.specs.SpaceVectors.{vector_of, vectors_of, IsVector}
 use Rattle.secondary_gens.specs.Columns.{IsColumns}
-use Rattle.secondary_gens.specs.Eliminations.{IsReducedBy, lines_of}
+use Rattle.secondary_gens.specs.Eliminations.{lines_of}
 use Rattle.secondary_gens.specs.Forms.{degree_of, degrees_of}
 use Rattle.secondary_gens.specs.PrintedCombinations.{combination_space}
 use Rattle.secondary_gens.proofs.CombinationSteps.{column_places, nothing_left, something_left, sum_over_field}

@@ -1,4 +1,4 @@
-use Rattle.std.proofs.Common.{◌≡◌, refl, arith}
+use Rattle.std.proofs.Common.{arith}
 use Rattle.alg_core.specs.DpOrder.{dp_order}
 use Rattle.alg_core.specs.Spaces.{over}
 use Rattle.secondary_gens.proofs.CombinationSteps.{summed_none, summed_more, summed_all}

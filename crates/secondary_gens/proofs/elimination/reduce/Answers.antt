@@ -1,6 +1,4 @@
-use Rattle.std.proofs.Common.{sym, subst}
 use Rattle.alg_core.specs.Spaces.{over}
-use Rattle.secondary_gens.specs.Eliminations.{IsRowOver}
 use Rattle.secondary_gens.proofs.RowSteps.{taken_none, taken_more}
 use Rattle.secondary_gens.proofs.elimination.reduce.Goals as goal
 
@@ -12,7 +10,6 @@ loop-i-init g c =
 pub loop-i-preserved : goal.loop-i-preserved
 loop-i-preserved g c =
     let S = over g.F.Field.field g.O.TermOrder.order c.args.space.now in
-    taken_more S c.args.rows.now c.loop-i.i c.index-rows-i.result c.loop-i-test.true c.index-rows-i.is c.args.v.now c.loop-i.rest c.in_ok-multiple.multiple c.in_ok-rest-2.rest
+    taken_more S c.args.rows.now c.loop-i.i c.index-rows-i.result c.loop-i-test.true c.index-rows-i.is c.args.v.now c.loop-i.rest c.in_ok-rest-2.rest
     c.coefficient-factor.result c.loop-i.factors.items c.push.new.self.items c.requires.triangular
-    (subst (IsRowOver S) (sym c.index-rows-i.is) (c.requires.rows c.loop-i.i c.index-rows-i.result c.loop-i-test.true))
-    c.coefficient-factor.ensures.has c.coefficient-factor.ensures.is c.in_ok-multiple.ensures.multiple c.in_ok-rest-2.ensures.difference c.in_ok-push.ensures.items c.loop-i.invariant
+    c.coefficient-factor.ensures.has c.coefficient-factor.ensures.is c.in_ok-rest-2.ensures.polynomial c.in_ok-rest-2.ensures.difference c.in_ok-push.ensures.items c.loop-i.invariant

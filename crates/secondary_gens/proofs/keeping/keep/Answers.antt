@@ -1,4 +1,4 @@
-use Rattle.std.proofs.Common.{◌≡◌, ◌+◌, map, refl, sym, subst, arith}
+use Rattle.std.proofs.Common.{◌+◌, map, sym, subst, arith}
 use Rattle.alg_core.specs.Spaces.{over}
 use Rattle.poly_module.specs.Forms.{IsForm}
 use Rattle.poly_module.specs.SpaceVectors.{vector_of, vectors_of, IsPoly}

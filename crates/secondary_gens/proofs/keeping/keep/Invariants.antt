@@ -1,8 +1,4 @@
-use Rattle.std.proofs.Common.{map}
 use Rattle.alg_core.specs.Spaces.{over}
-use Rattle.poly_module.specs.SpaceVectors.{vectors_of}
-use Rattle.secondary_gens.specs.Columns.{AreLevels}
-use Rattle.secondary_gens.specs.Forms.{degrees_of}
 use Rattle.secondary_gens.proofs.KeepSteps.{Keeping}
 use Rattle.secondary_gens.proofs.keeping.keep.Given as goal
 
