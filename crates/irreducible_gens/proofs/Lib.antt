@@ -1,0 +1,10 @@
+pub mod Generators
+pub mod Parted
+pub mod Kept
+pub mod Minimal
+pub mod Chosen
+pub mod OneWord
+pub mod UnitSteps
+pub mod WordSteps
+pub mod ReducibleSteps
+pub mod ChoiceSteps

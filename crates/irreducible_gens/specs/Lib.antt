@@ -1,0 +1,3 @@
+pub mod Algebras
+pub mod Irreducibles
+pub mod Words
