@@ -1,0 +1,6 @@
+pub mod PolynomialLists
+pub mod ColonModules
+pub mod ColonGenerators
+pub mod ColonBases
+pub mod SecondParts
+pub mod NonzerodivisorSteps

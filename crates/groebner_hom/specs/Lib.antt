@@ -1,0 +1,2 @@
+pub mod IdealBases
+pub mod Colons
