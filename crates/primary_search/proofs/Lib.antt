@@ -1,0 +1,2 @@
+pub mod CombinationSteps
+pub mod Carries
