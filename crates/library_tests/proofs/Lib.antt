@@ -1,3 +1,2 @@
 pub mod BasisRuns
-pub mod SmallEntries
 pub mod SquareMatrices

@@ -3,10 +3,8 @@
 ghost use Rattle.std.specs.Prelude.{IfOk, All};
 ghost use Rattle.alg_core.specs.Spaces.{over, entries};
 ghost use Rattle.poly_module.specs.SpaceVectors.{IsVector, IsPoly, ArePolys};
-ghost use Rattle.library_tests.specs.Smallness.{IsSmall};
+ghost use Rattle.test_inputs.specs.Smallness.{IsSmall};
 
-use crate::polynomials::{has_polynomials, is_small_monomial, read, shown, space};
-use crate::vectors::{Entry, term};
 use alg_core::{Field, ModTerm, Mono, Space, TermOrder, is_place};
 use poly_module::{
     Poly, add, are_equal, coefficient, copy, monomial, mul, mul_term, one, scale, single, sub,
@@ -15,6 +13,7 @@ use poly_module::{
 use prime_field::PrimeField;
 use std::alloc::Global;
 use std::test::Fail;
+use test_inputs::{Entry, has_polynomials, is_small_monomial, read, shown, space, term};
 
 /// Two polynomials over GF(3), with their sum and their difference.
 #[derive(Clone, Copy)]

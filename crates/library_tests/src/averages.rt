@@ -7,9 +7,6 @@ ghost use Rattle.poly_module.specs.SpaceVectors.{IsPoly};
 ghost use Rattle.matrix_group.specs.Groups.{size};
 ghost use Rattle.reynolds_op.specs.Averages.{IsMatrixGroup};
 
-use crate::matrices::generators;
-use crate::polynomials::{has_polynomials, read, shown, space};
-use crate::prime_fields::field;
 use alg_core::{Field, Space, TermOrder};
 use matrix_group::{Group, enumerate};
 use poly_module::Poly;
@@ -17,6 +14,7 @@ use prime_field::PrimeField;
 use reynolds_op::Reynolds;
 use std::alloc::Global;
 use std::test::Fail;
+use test_inputs::{field, generators, has_polynomials, read, shown, space};
 
 /// Over GF(3): x goes to y, y to -x, and z to -z.
 const TURN: [i16; 9] = [0, 1, 0, -1, 0, 0, 0, 0, -1];

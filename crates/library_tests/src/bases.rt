@@ -4,8 +4,6 @@ ghost use Rattle.std.specs.Prelude.{IfOk};
 ghost use Rattle.alg_core.specs.Spaces.{over};
 ghost use Rattle.poly_module.specs.SpaceVectors.{ArePolys};
 
-use crate::matrices::generators;
-use crate::polynomials::{has_polynomials, shown, space};
 use alg_core::{Dp, Field, Space, TermOrder};
 use invariant_space::{SpaceFault, basis};
 use poly_module::Poly;
@@ -13,6 +11,7 @@ use prime_field::PrimeField;
 use std::alloc::Global;
 use std::process::Abort;
 use std::test::Fail;
+use test_inputs::{generators, has_polynomials, shown, space};
 
 const IDENTITY: [i16; 9] = [1, 0, 0, 0, 1, 0, 0, 0, 1];
 

@@ -6,9 +6,6 @@ ghost use Rattle.poly_module.specs.Sizes.{IsLow};
 ghost use Rattle.poly_module.specs.SpaceVectors.{IsPoly};
 ghost use Rattle.matrix_group.specs.Actions.{ActsOn};
 
-use crate::matrices::generators;
-use crate::polynomials::{has_polynomials, read, shown, space};
-use crate::prime_fields::field;
 use alg_core::{Field, Space, TermOrder};
 use lin_algebra::Matrix;
 use matrix_group::{GroupFault, act, enumerate, is_invariant, row_form};
@@ -16,6 +13,7 @@ use poly_module::Poly;
 use prime_field::PrimeField;
 use std::alloc::Global;
 use std::test::Fail;
+use test_inputs::{field, generators, has_polynomials, read, shown, space};
 
 /// x goes to x + y.
 const TRANSVECTION: [i16; 4] = [1, 1, 0, 1];

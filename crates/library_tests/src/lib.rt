@@ -14,11 +14,7 @@ mod groups;
 #[cfg(test)]
 mod linear_algebra;
 #[cfg(test)]
-mod matrices;
-#[cfg(test)]
 mod outside;
-#[cfg(test)]
-mod polynomials;
 #[cfg(test)]
 mod prime_fields;
 mod runs;

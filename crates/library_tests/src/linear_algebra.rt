@@ -1,12 +1,11 @@
 //! Forms, systems, products and inverses of matrices over some prime fields.
 
-use crate::matrices::{matrix, values};
-use crate::prime_fields::field;
 use alg_core::Field;
 use lin_algebra::{echelon, identity, inverse, kernel, multiply, solve};
 use std::alloc::Global;
 use std::process::Abort;
 use std::test::Fail;
+use test_inputs::{field, matrix, values};
 
 /// The rows are e + f, 2e + f and e + 2f for e = (1, 2, 0, 1) and f = (0, 0, 1, 1).
 const RANK_TWO: [i16; 12] = [1, 2, 1, 2, 2, 4, 1, 3, 1, 2, 2, 3];

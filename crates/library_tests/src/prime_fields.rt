@@ -4,14 +4,7 @@ use alg_core::Field;
 use prime_field::PrimeField;
 use std::process::Abort;
 use std::test::Fail;
-
-/// GF(p), where p is one of the listed characteristics.
-pub(crate) fn field(p: u32) -> Result<PrimeField, Fail> {
-    match PrimeField::new(p) {
-        Ok(field) => Ok(field),
-        Err(_) => Err(Fail::new("not listed")),
-    }
-}
+use test_inputs::field;
 
 fn examine<F: Field<Elem = u16>>(rt: &impl Abort, field: &F, p: u16) {
     assert_eq!(rt; field.size(), u32::from(p));

@@ -1,6 +1,5 @@
 //! Monomials, names, and the orders of terms.
 
-use crate::prime_fields::field;
 use alg_core::{
     BlockOrder, Dp, ElimOrder, Field, ModTerm, Mono, Monomial, Name, TermOrder, is_zero,
     weighted_degree,
@@ -9,6 +8,7 @@ use std::alloc::Global;
 use std::cmp::Ordering;
 use std::process::Abort;
 use std::test::Fail;
+use test_inputs::field;
 
 /// Two terms, each a position with the exponents of x, y and z, of which the first is greater.
 #[derive(Clone, Copy)]

@@ -4,12 +4,12 @@ ghost use Rattle.std.specs.Prelude.{IfOk, IsTrue};
 ghost use Rattle.alg_core.specs.Spaces.{over};
 ghost use Rattle.poly_module.specs.SpaceVectors.{HasPolynomials};
 
-use crate::polynomials::{are_three, has_places, names, space_by};
 use alg_core::{Dp, Field, ModTerm, Mono, Space, TermOrder, ValueKind, is_place};
 use poly_text::{Names, TextFault, print_poly, read_poly};
 use prime_field::PrimeField;
 use std::alloc::Global;
 use std::test::Fail;
+use test_inputs::{are_three, has_places, names, space_by};
 
 /// Polynomials over GF(p) in x, y and z, and, where they are marked, in `@1`, `@2` and `$1`.
 fn space(alloc: Global, p: u32, is_marked: bool) -> Result<Space<PrimeField, Dp>, Fail> {

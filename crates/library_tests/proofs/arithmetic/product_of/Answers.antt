@@ -1,5 +1,5 @@
 use Rattle.alg_core.specs.Spaces.{entries}
-use Rattle.library_tests.proofs.SmallEntries.{products}
+use Rattle.test_inputs.proofs.SmallEntries.{products}
 use Rattle.library_tests.proofs.arithmetic.product_of.Goals as goal
 
 pub mul-requires-clause-room : goal.mul-requires-clause-room

@@ -4,8 +4,8 @@ use Rattle.alg_core.specs.declared.term.Term.{Term}
 use Rattle.poly_module.specs.SpaceVectors.{IsPoly}
 use Rattle.prime_field.specs.PrimeFields.{gfp}
 use Rattle.prime_field.specs.declared.gfp.PrimeField.{PrimeField}
-use Rattle.library_tests.specs.Smallness.{IsSmall}
-use Rattle.library_tests.proofs.SmallEntries.{all_added}
+use Rattle.test_inputs.specs.Smallness.{IsSmall}
+use Rattle.test_inputs.proofs.SmallEntries.{all_added}
 use Rattle.library_tests.proofs.arithmetic.read_all.Goals as goal
 
 pub loop-text-preserved : goal.loop-text-preserved

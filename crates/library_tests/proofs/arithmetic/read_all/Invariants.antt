@@ -3,7 +3,7 @@ use Rattle.alg_core.specs.Spaces.{over, entries}
 use Rattle.poly_module.specs.SpaceVectors.{ArePolys}
 use Rattle.prime_field.specs.PrimeFields.{gfp}
 use Rattle.prime_field.specs.declared.gfp.PrimeField.{PrimeField}
-use Rattle.library_tests.specs.Smallness.{IsSmall}
+use Rattle.test_inputs.specs.Smallness.{IsSmall}
 use Rattle.library_tests.proofs.arithmetic.read_all.Given as goal
 
 abbrev pub invariant-loop-text : goal.invariant-loop-text

@@ -1,5 +1,5 @@
 use Rattle.alg_core.specs.Spaces.{entries}
-use Rattle.library_tests.proofs.SmallEntries.{multiples}
+use Rattle.test_inputs.proofs.SmallEntries.{multiples}
 use Rattle.library_tests.proofs.arithmetic.shifted.Goals as goal
 
 pub mul_term-requires-clause-room : goal.mul_term-requires-clause-room

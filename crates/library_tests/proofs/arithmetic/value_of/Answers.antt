@@ -6,8 +6,8 @@ use Rattle.poly_module.proofs.Factors.{fits_terms}
 use Rattle.poly_module.specs.SpaceVectors.{ArePolys}
 use Rattle.prime_field.specs.PrimeFields.{gfp}
 use Rattle.prime_field.specs.declared.gfp.PrimeField.{PrimeField}
-use Rattle.library_tests.specs.Smallness.{IsSmall}
-use Rattle.library_tests.proofs.SmallEntries.{widths, values}
+use Rattle.test_inputs.specs.Smallness.{IsSmall}
+use Rattle.test_inputs.proofs.SmallEntries.{widths, values}
 use Rattle.library_tests.proofs.arithmetic.value_of.Goals as goal
 
 pub substitute-requires-clause-variables : goal.substitute-requires-clause-variables

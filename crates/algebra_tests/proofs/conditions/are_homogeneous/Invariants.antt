@@ -1,0 +1,10 @@
+use Rattle.std.proofs.Common.{take}
+use Rattle.alg_core.specs.Spaces.{over}
+use Rattle.poly_module.specs.SpaceVectors.{vectors_of}
+use Rattle.module_groebner.specs.HomogeneousLists.{cap_limit, AreHomogeneousUpTo}
+use Rattle.algebra_tests.proofs.conditions.are_homogeneous.Given as goal
+
+abbrev pub invariant-loop-i : goal.invariant-loop-i
+invariant-loop-i g l =
+    let S = over g.F.Field.field g.O.TermOrder.order l.space in
+    AreHomogeneousUpTo S cap_limit (vectors_of S (λ m. m) (take l.i l.vs))

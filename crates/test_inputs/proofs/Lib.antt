@@ -1,0 +1,2 @@
+pub mod SmallEntries
+pub mod SquareMatrices
