@@ -1,5 +1,6 @@
 -- The steps of elimination on rows of values.
-use Rattle.std.proofs.Common.{◌≡◌, ℕ, zero, suc, ◌+◌, ◌<◌, ◌≤◌, inl, inr, List, [], ◌∷◌, ◌++◌, map, length, take, drop, get_or, set, All, Option, Some, IfSome, sym, ap, ap₂, ◌∙◌, arith, subst}
+use Rattle.std.proofs.Common.{◌≡◌, ◌≢◌, ◌⊎◌, max, ℕ, zero, suc, ◌+◌, ◌<◌, ◌≤◌, inl, inr, List, [], ◌∷◌, ◌++◌, map, length, take, drop, get_or, set, All, Option, Some, IfSome, sym, ap, ap₂, ◌∙◌, arith, subst}
+use Rattle.std.proofs.lemmas.Bool.{cases_lt}
 use Rattle.std.specs.List.{insert, AllByRecursion as Each}
 use Rattle.std.specs.Vec.{with_items}
 use Rattle.std.proofs.lemmas.List.{with_items_is, drop_more, drop_all, get_or_read, get_or-map, map-set, map-append, take-map, drop-map, length-map, ext_get_or, get_or_default, length-take-le, get_or-take}
@@ -7,7 +8,7 @@ use Rattle.std.proofs.lemmas.List.Elements.{All-set, All-from_recursion, recursi
 use Rattle.alg_core.specs.RingLaws as rings
 use Rattle.alg_core.specs.Lists.{In}
 use Rattle.lin_algebra.proofs.EachLaws.{Each_at, Each_map, Each_of_map}
-use Rattle.lin_algebra.proofs.EchelonLaws.{each_pivot_row}
+use Rattle.lin_algebra.proofs.EchelonLaws.{each_pivot_row, zero_at_others}
 use Rattle.alg_core.specs.Fields.{FieldOn, Has, Scalar, scalars, scalar, scalar_zero, scalar_one, scalar_mul, scalar_neg}
 use Rattle.lin_algebra.specs.declared.elimination.BasisRow.{BasisRow}
 use Rattle.lin_algebra.specs.Vectors.{vectors, vector, IsRow}
@@ -163,6 +164,21 @@ module _ {E : Type 0} (k : FieldOn E) where
       → (j : ℕ) → j < x.pivot → vector k x.entries.items j ≡ (scalars k).zero
   zero_before_pivot n basis i x h inside read =
       (Each_at (IsPivotRow (scalars k)) (basis_rows k basis) (each_pivot_row (scalars k) (basis_rows k basis) h.reduced) (row_of x) (in_basis_rows basis i x inside (sym read))).before
+
+  -- and where the pivots in front are 0, 1, .., it is 0 there but at its own pivot
+  pub zero_before_rest : (n : ℕ) (basis : List (BasisRow E)) (front from i : ℕ) (x : BasisRow E) → IsBasis k n basis → front ≤ length basis → ((j : ℕ) (d : BasisRow E) → j < front → (get_or basis j d).pivot ≡ j)
+      → from ≡ max front x.pivot → i < length basis → x ≡ get_or basis i x → (j : ℕ) → j < from → j ≢ x.pivot → vector k x.entries.items j ≡ (scalars k).zero
+  zero_before_rest n basis front from i x h within pivots is inside read j low other = go (cases_lt j x.pivot)
+    where
+      go : (j < x.pivot) ⊎ (x.pivot ≤ j) → vector k x.entries.items j ≡ (scalars k).zero
+      go (inl early) = zero_before_pivot n basis i x h inside read j early
+      go (inr late) =
+          let there : j < front = omega (arith, is, other) in
+          let y : BasisRow E = get_or basis j x in
+          let at : y.pivot ≡ j = pivots j x there in
+          subst (λ p. vector k x.entries.items p ≡ (scalars k).zero) at
+          (zero_at_others (scalars k) (basis_rows k basis) h.reduced (row_of x) (row_of y) (in_basis_rows basis i x inside (sym read)) (in_basis_rows basis j y (omega arith) (get_or_default basis j y x (omega arith)))
+          (λ e. other (sym at ∙ sym e)))
 
   -- so is a multiple of a row that is
   pub monic_before : (p : ℕ) (w u : ℕ → Scalar k) → IsMonicMultiple (scalars k) p w u → ((j : ℕ) → j < p → w j ≡ (scalars k).zero) → (j : ℕ) → j < p → u j ≡ (scalars k).zero

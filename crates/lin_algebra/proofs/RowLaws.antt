@@ -1,5 +1,5 @@
 -- Rows of values: a row written entry by entry, and what becomes of its vector.
-use Rattle.std.proofs.Common.{◌≡◌, ℕ, ◌+◌, ◌<◌, ◌≤◌, ◌⊎◌, inl, inr, List, length, get_or, set, All, sym, ap, ap₂, ◌∙◌, refl, arith}
+use Rattle.std.proofs.Common.{◌≡◌, ◌≢◌, ℕ, ◌+◌, ◌<◌, ◌≤◌, ◌⊎◌, inl, inr, List, length, get_or, set, All, sym, ap, ap₂, ◌∙◌, refl, arith}
 use Rattle.std.proofs.lemmas.Bool.{cases_lt}
 use Rattle.std.proofs.lemmas.List.{get_or_read, get_or_past, get_or-set_same, get_or-set_other}
 use Rattle.std.proofs.lemmas.List.Elements.{All-weaker}
@@ -17,10 +17,6 @@ pub record Written {E : Type 0} (z : E) (F : ℕ → E → E) (old row : List E)
 module _ {E : Type 0} (z : E) (F : ℕ → E → E) (old : List E) where
   pub written_none : Written z F old old 0
   written_none = record { done = λ j h. absurd (omega arith); rest = λ j h. refl }
-
-  -- where F keeps the first i entries, they are written
-  pub written_same : (i : ℕ) → ((j : ℕ) → j < i → F j (get_or old j z) ≡ get_or old j z) → Written z F old old i
-  written_same i same = record { done = λ j h. sym (same j h); rest = λ j h. refl }
 
   pub written_more : (row : List E) (i : ℕ) (x y : E) → i < length row → Written z F old row i → x ≡ get_or row i x → y ≡ F i x → Written z F old (set row i y) (i + 1)
   written_more row i x y inside w read made = record { done = λ j h. done j h (ℕ_discrete j i); rest = λ j h. rest j h }
@@ -112,3 +108,13 @@ module _ {E : Type 0} (k : FieldOn E) where
       at i (no n) =
           ap (scalar k) (get_or-set_other xs j i (k.add x c) k.zero (λ e. n (sym e)))
           ∙ sym (ap ((scalars k).◌+◌ (vector k xs i)) (ap ((scalars k).◌*◌ (scalar k c)) (unit_other (scalars k) j i n) ∙ rings.mul_zero (scalars k) _) ∙ (scalars k).add_zero _)
+
+  -- where the other row is 0 before a column but at one place, that place alone is written
+  pub added_at : (row by : List E) (c y : E) (column from : ℕ) → column < length row → Has k c → All (Has k) row → All (Has k) by → ((j : ℕ) → j < from → j ≢ column → vector k by j ≡ (scalars k).zero)
+      → y ≡ k.add (get_or row column k.zero) (k.mul c (get_or by column k.zero))
+      → (j : ℕ) → j < from → get_or (set row column y) j k.zero ≡ k.add (get_or row j k.zero) (k.mul c (get_or by j k.zero))
+  added_at row by c y column from inside has has_row has_by none is j low = go (ℕ_discrete j column)
+    where
+      go : Dec (j ≡ column) → get_or (set row column y) j k.zero ≡ k.add (get_or row j k.zero) (k.mul c (get_or by j k.zero))
+      go (yes e) = ap (λ i. get_or (set row column y) i k.zero) e ∙ get_or-set_same row column y k.zero inside ∙ is ∙ ap (λ i. k.add (get_or row i k.zero) (k.mul c (get_or by i k.zero))) (sym e)
+      go (no n) = get_or-set_other row column j y k.zero n ∙ sym (nothing_added row by c j has has_row has_by (none j low n))

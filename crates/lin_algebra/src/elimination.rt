@@ -1,4 +1,4 @@
-ghost use Rattle.std.specs.Prelude.{◌≡◌, ◌≢◌, ℕ, ◌<◌, ◌≤◌, ◌∷◌, All, length, map, slice_index_or, IfOk, OnOk, vec_len};
+ghost use Rattle.std.specs.Prelude.{◌≡◌, ◌≢◌, ℕ, ◌<◌, ◌≤◌, ◌∷◌, max, All, length, map, slice_index_or, IfOk, OnOk, vec_len};
 ghost use Rattle.alg_core.specs.Fields.{Has, scalars};
 ghost use Rattle.lin_algebra.specs.Vectors.{vectors, vector, IsRow};
 ghost use Rattle.alg_core.specs.Spans.{SameSpan};
@@ -15,24 +15,46 @@ pub(crate) struct BasisRow<E> {
     pub entries: Vec<E>,
 }
 
-/// Makes a row zero at `column` by a multiple of a row that is 1 there, and 0 before.
-fn clear_at<F: Field>(field: &F, row: &mut [F::Elem], by: &[F::Elem], column: usize)
+/// Makes a row zero at `column` by a multiple of a row that is 1 there, and else 0 before the column
+/// `from`.
+fn clear_at<F: Field>(field: &F, row: &mut [F::Elem], by: &[F::Elem], column: usize, from: usize)
     requires same { length row.old ≡ length by.now }
     requires column { column < length row.old }
     requires row_has { All (Has (F.field field.now)) row.old }
     requires by_has { All (Has (F.field field.now)) by.now }
-    requires before { let k = F.field field.now in (j : ℕ) → j < column → vector k by.now j ≡ (scalars k).zero }
+    requires before { let k = F.field field.now in (j : ℕ) → j < from → j ≢ column → vector k by.now j ≡ (scalars k).zero }
     ensures has { All (Has (F.field field.now)) row.new }
     ensures cleared { let k = F.field field.now in
         vector k row.new ≡ cleared_at (scalars k) column (vector k by.now) (vector k row.old) }
 {
     let factor = field.neg(row[column]);
     if !is_zero(field, factor) {
-        add_multiple(field, row, factor, by, column);
+        add_multiple(field, row, factor, by, column, from);
     }
 }
 
-/// Makes a row zero at the pivots of the others.
+/// How many rows in front have the pivots 0, 1, ..
+fn front<E>(basis: &[BasisRow<E>]) -> usize
+    ensures within { result ≤ length basis.now }
+    ensures pivots { (i : ℕ) (d : _) → i < result → (slice_index_or basis.now i d).pivot ≡ i }
+{
+    for i in 0..basis.len() {
+        if basis[i].pivot != i {
+            return i;
+        }
+    }
+    basis.len()
+}
+
+/// The greater of two columns.
+fn greater(a: usize, b: usize) -> usize
+    ensures is { result ≡ max a b }
+{
+    if a < b { b } else { a }
+}
+
+/// Makes a row zero at the pivots of the others. Where the pivots in front are 0, 1, .., each of these
+/// is 0 in those columns but at its own pivot, and only the columns after them are gone through.
 fn reduce<F: Field>(field: &F, basis: &[BasisRow<F::Elem>], row: &mut [F::Elem])
     requires basis { IsBasis (F.field field.now) (length row.old) basis.now }
     requires has { All (Has (F.field field.now)) row.old }
@@ -40,8 +62,10 @@ fn reduce<F: Field>(field: &F, basis: &[BasisRow<F::Elem>], row: &mut [F::Elem])
     ensures reduced { let k = F.field field.now in
         vector k row.new ≡ reduced_by (scalars k) (vector k row.old) (basis_rows k basis.now) }
 {
+    let front = front(basis);
     for old in basis {
-        clear_at(field, row, &old.entries, old.pivot);
+        let from = greater(front, old.pivot);
+        clear_at(field, row, &old.entries, old.pivot, from);
     }
 }
 
@@ -57,7 +81,7 @@ fn clear_column<F: Field>(field: &F, basis: &mut [BasisRow<F::Elem>], new: &[F::
 {
     for i in 0..basis.len() {
         let old = &mut basis[i];
-        clear_at(field, &mut old.entries, new, pivot);
+        clear_at(field, &mut old.entries, new, pivot, pivot);
     }
 }
 

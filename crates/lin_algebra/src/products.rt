@@ -51,7 +51,7 @@ fn product_row<F: Field>(
 {
     let mut sum = zeros(alloc, field, b.cols as usize)?;
     for l in 0..row.len() {
-        add_multiple(field, &mut sum, row[l], b.row(l), 0);
+        add_multiple(field, &mut sum, row[l], b.row(l), 0, 0);
     }
     Ok(sum)
 }

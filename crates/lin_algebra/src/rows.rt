@@ -1,4 +1,4 @@
-ghost use Rattle.std.specs.Prelude.{◌≡◌, ◌≢◌, ℕ, ◌<◌, All, length, IfNone, IfSome, IfOk, slice_index_or};
+ghost use Rattle.std.specs.Prelude.{◌≡◌, ◌≢◌, ℕ, ◌<◌, ◌≤◌, All, length, IfNone, IfSome, IfOk, slice_index_or};
 ghost use Rattle.alg_core.specs.Fields.{Has, scalar, scalars};
 ghost use Rattle.lin_algebra.specs.Vectors.{vectors, vector, unit, IsRow};
 
@@ -18,17 +18,46 @@ pub(crate) fn zeros<F: Field>(alloc: Global, field: &F, n: usize) -> Result<Vec<
     Ok(row)
 }
 
-/// Adds `factor` times another row, whose entries before the column `from` are 0.
+/// Adds `factor` times the entry of another row at `column`, if that stands before the column `from`,
+/// where its other entries are 0.
+fn add_before<F: Field>(
+    field: &F,
+    row: &mut [F::Elem],
+    factor: F::Elem,
+    by: &[F::Elem],
+    column: usize,
+    from: usize,
+)
+    requires same { length row.old ≡ length by.now }
+    requires column { column < from → column < length row.old }
+    requires before { let k = F.field field.now in (j : ℕ) → j < from → j ≢ column → vector k by.now j ≡ (scalars k).zero }
+    requires factor { Has (F.field field.now) factor }
+    requires row_has { All (Has (F.field field.now)) row.old }
+    requires by_has { All (Has (F.field field.now)) by.now }
+    ensures has { All (Has (F.field field.now)) row.new }
+    ensures done { let k = F.field field.now in (j : ℕ) → j < from → slice_index_or row.new j k.zero
+        ≡ k.add (slice_index_or row.old j k.zero) (k.mul factor (slice_index_or by.now j k.zero)) }
+    ensures rest { let k = F.field field.now in
+        (j : ℕ) → from ≤ j → slice_index_or row.new j k.zero ≡ slice_index_or row.old j k.zero }
+{
+    if column < from {
+        row[column] = field.add(row[column], field.mul(factor, by[column]));
+    }
+}
+
+/// Adds `factor` times another row, whose entries before the column `from` are 0 but at `column`.
 #[inline(never)]
 pub(crate) fn add_multiple<F: Field>(
     field: &F,
     row: &mut [F::Elem],
     factor: F::Elem,
     by: &[F::Elem],
+    column: usize,
     from: usize,
 )
     requires same { length row.old ≡ length by.now }
-    requires before { let k = F.field field.now in (j : ℕ) → j < from → vector k by.now j ≡ (scalars k).zero }
+    requires column { column < from → column < length row.old }
+    requires before { let k = F.field field.now in (j : ℕ) → j < from → j ≢ column → vector k by.now j ≡ (scalars k).zero }
     requires factor { Has (F.field field.now) factor }
     requires row_has { All (Has (F.field field.now)) row.old }
     requires by_has { All (Has (F.field field.now)) by.now }
@@ -36,6 +65,7 @@ pub(crate) fn add_multiple<F: Field>(
     ensures sum { let k = F.field field.now in let X = vectors (scalars k) in
         vector k row.new ≡ X.◌+◌ (vector k row.old) (X.◌·◌ (scalar k factor) (vector k by.now)) }
 {
+    add_before(field, row, factor, by, column, from);
     // A field of one's own stays in registers, and the loop takes several entries at a time.
     let own = *field;
     for j in from..row.len() {

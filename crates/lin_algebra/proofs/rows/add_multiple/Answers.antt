@@ -1,16 +1,15 @@
 use Rattle.std.proofs.Common.{◌∙◌, ap, arith, slice_index_or}
 use Rattle.std.proofs.lemmas.Grind.{common_steps}
 use Rattle.std.proofs.lemmas.List.{get_or_read}
-use Rattle.lin_algebra.proofs.RowLaws.{written_same, nothing_added, written_more, vector_sum}
+use Rattle.lin_algebra.proofs.RowLaws.{written_more, vector_sum}
 use Rattle.lin_algebra.proofs.rows.add_multiple.Goals as goal
 
 pub loop-j-init : goal.loop-j-init
 loop-j-init g c =
     let k = g.F.Field.field c.args.field.now in
     record {
-      written = written_same k.zero (λ j a. k.add a (k.mul c.args.factor (slice_index_or c.args.by.now j k.zero))) c.args.row.now c.args.from
-          (λ j h. nothing_added k c.args.row.now c.args.by.now c.args.factor j c.requires.factor c.requires.row_has c.requires.by_has (c.requires.before j h));
-      has = c.requires.row_has;
+      written = record { done = c.add_before.ensures.done; rest = c.add_before.ensures.rest };
+      has = c.add_before.ensures.has;
     }
 
 pub loop-j-preserved : goal.loop-j-preserved

@@ -7,6 +7,6 @@ abbrev pub invariant-loop-j : goal.invariant-loop-j
 invariant-loop-j g l =
     let k = g.F.Field.field l.field in
     record {
-      written : Written k.zero (λ j a. k.add a (k.mul l.factor (slice_index_or l.by j k.zero))) l.initial.row l.row l.j;
+      written : Written k.zero (λ j a. k.add a (k.mul l.factor (slice_index_or l.by j k.zero))) l.fn.row l.row l.j;
       has : All (Has k) l.row;
     }
