@@ -1,7 +1,6 @@
 -- Binomial coefficients by products.
-use Rattle.std.proofs.Common.{◌≡◌, ◌⊎◌, ℕ, zero, suc, ◌+◌, ◌-◌, ◌*◌, ◌/◌, ◌^◌, ◌<◌, ◌≤◌, inl, inr, refl, sym, ap, ap₂, subst, ◌∙◌, arith}
-use Rattle.std.proofs.Math.Nat.{pow-le-pow_right, pow-suc, mul-le-mul, mul-div_cancel, div-mul-le_self}
-use Rattle.std.proofs.lemmas.Bool.{cases_lt}
+use Rattle.invariant_space.proofs.Common.{◌≡◌, ℕ, zero, suc, ◌+◌, ◌-◌, ◌*◌, ◌/◌, ◌^◌, ◌<◌, ◌≤◌, refl, sym, ap, ap₂, subst, ◌∙◌, arith}
+use Rattle.std.proofs.Common.{mul-le-mul, mul-div_cancel, div-mul-le_self, le-div_iff_mul-le, le_refl}
 use Rattle.alg_core.specs.Binomials.{choose}
 
 choose-past : (k : ℕ) → choose 0 (suc k) ≡ 0
@@ -33,47 +32,26 @@ choose-absorb (suc n) (suc k) = step (choose (suc (suc n)) (suc (suc k))) (choos
     step : (a b c d e n k : ℕ) → a ≡ b + c → b ≡ d + e → b * suc k ≡ d * suc n → c * suc (suc k) ≡ e * suc n → a * suc (suc k) ≡ b * suc (suc n)
     step a b c d e n k p q r s = omega (arith, ap (λ t. t * suc n) q, ap (λ t. t * suc (suc k)) p)
 
--- 1 · 2 · .. · n
-abbrev factorial : ℕ → ℕ
-factorial zero = 1
-factorial (suc n) = suc n * factorial n
+-- a bound of the count for i variables, where the degree is at most 12288
+abbrev most : ℕ → ℕ
+most zero = 1
+most (suc zero) = 1
+most (suc (suc j)) = most (suc j) * 12299 / suc j
 
-factorial-positive : (n : ℕ) → 1 ≤ factorial n
-factorial-positive zero = omega arith
-factorial-positive (suc n) = let h = factorial-positive n in let some : 1 ≤ suc n = omega arith in let r : 1 * 1 ≤ suc n * factorial n = mul-le-mul some h in omega arith
+most-grows : (j : ℕ) → suc j ≤ 12299 → most (suc j) ≤ most (suc (suc j))
+most-grows j few = let some : 0 < suc j = omega arith in let same : most (suc j) ≤ most (suc j) = omega arith in (le-div_iff_mul-le some).1 (mul-le-mul same few)
 
--- a product over at most eleven variables
-product-small : (j x : ℕ) → j ≤ 10 → x * factorial j ≤ 12299 ^ suc j → x < 2 ^ 128
-product-small j x few h = go (cases_lt j 9) (cases_lt j 10)
-  where
-    at : (i : ℕ) → j ≡ i → x * factorial i ≤ 12299 ^ suc i
-    at i e = subst (λ (n : ℕ). x * factorial n ≤ 12299 ^ suc n) e h
+-- it leaves room for one product more
+most-below : (j n : ℕ) → j + n ≡ 10 → most (suc j) ≤ most 11
+most-below j zero e = let last : 10 ≡ j = omega arith in subst (λ (m : ℕ). most (suc m) ≤ most 11) last (le_refl (most 11))
+most-below j (suc n) e = let here = most-grows j (omega arith) in let rest = most-below (suc j) n (omega arith) in omega arith
 
-    ninth : x * factorial 9 ≤ 12299 ^ 10 → x < 2 ^ 128
-    ninth h = omega arith
-
-    tenth : x * factorial 10 ≤ 12299 ^ 11 → x < 2 ^ 128
-    tenth h = omega arith
-
-    small : j < 9 → x < 2 ^ 128
-    small low =
-        let same : x ≤ x = omega arith in
-        let grows : x * 1 ≤ x * factorial j = mul-le-mul same (factorial-positive j) in
-        let few : suc j ≤ 9 = omega arith in
-        let top : 12299 ^ suc j ≤ 12299 ^ 9 = pow-le-pow_right (omega arith) few in
-        omega arith
-
-    go : (j < 9) ⊎ (9 ≤ j) → (j < 10) ⊎ (10 ≤ j) → x < 2 ^ 128
-    go (inl low) c = small low
-    go (inr high) (inl low) = ninth (at 9 (omega arith))
-    go (inr high) (inr top) = tenth (at 10 (omega arith))
-
--- with one variable more
-product-bound : (count i s : ℕ) → 1 ≤ i → s ≤ 12299 → count * factorial (i - 1) ≤ 12299 ^ (i - 1) → count * s * factorial (i - 1) ≤ 12299 ^ suc (i - 1)
-product-bound count i s some small bound =
-    let last : 12299 ^ suc (i - 1) ≡ 12299 ^ (i - 1) * 12299 = pow-suc 12299 (i - 1) in
-    let product : (count * factorial (i - 1)) * s ≤ 12299 ^ (i - 1) * 12299 = mul-le-mul bound small in
-    omega arith
+most-next : (j count s : ℕ) → s ≤ 12299 → count ≤ most (suc j) → count * s / suc j ≤ most (suc (suc j))
+most-next j count s small bound =
+    let some : 0 < suc j = omega arith in
+    let product : count * s ≤ most (suc j) * 12299 = mul-le-mul bound small in
+    let part : count * s / suc j * suc j ≤ count * s = div-mul-le_self (count * s) (suc j) in
+    (le-div_iff_mul-le some).1 (omega arith)
 
 -- one variable more
 choose-next : (d i count s : ℕ) → 1 ≤ i → s ≡ d + i → count ≡ choose (i + d - 1) (i - 1) → count * s / i ≡ choose (i + 1 + d - 1) (i + 1 - 1)
@@ -87,23 +65,23 @@ choose-next d i count s some sum is =
 -- the count of monomials of degree d in i variables
 pub record Counted (d i count : ℕ) : Type 0 where
   pub is : count ≡ choose (i + d - 1) (i - 1)
-  pub bound : count * factorial (i - 1) ≤ 12299 ^ (i - 1)
+  pub bound : count ≤ most i
 
 pub product-fits : (d i count s : ℕ) → 1 ≤ i → i ≤ 11 → s ≤ 12299 → Counted d i count → count * s < 2 ^ 128
-product-fits d i count s some few small counted = product-small (i - 1) (count * s) (omega arith) (product-bound count i s some small counted.bound)
+product-fits d zero count s some few small counted = absurd (omega arith)
+product-fits d (suc j) count s some few small counted =
+    let product : count * s ≤ most (suc j) * 12299 = mul-le-mul counted.bound small in
+    let last = most-below j (10 - j) (omega arith) in
+    omega arith
 
 pub Counted-next : (d i count s t : ℕ) → 1 ≤ i → i ≤ 11 → d ≤ 12288 → s ≡ d + i → t ≡ i → Counted d i count → Counted d (i + 1) (count * s / t)
-Counted-next d i count s t some few small sum same counted =
-    let bound = product-bound count i s some (omega arith) counted.bound in
-    subst (λ (m : ℕ). Counted d (i + 1) (count * s / m)) (sym same) (record { is = choose-next d i count s some sum counted.is; bound = divided (i - 1) (count * s) (omega arith) bound })
-  where
-    divided : (j x : ℕ) → i ≡ suc j → x * factorial j ≤ 12299 ^ suc j → (x / i) * factorial (i + 1 - 1) ≤ 12299 ^ (i + 1 - 1)
-    divided j x e h =
-        let k : i + 1 - 1 ≡ suc j = omega arith in
-        let less : x / suc j * suc j ≤ x = div-mul-le_self x (suc j) in
-        let same : factorial j ≤ factorial j = omega arith in
-        let part : (x / suc j * suc j) * factorial j ≤ x * factorial j = mul-le-mul less same in
-        rw (k, e) (omega arith)
+Counted-next d zero count s t some few small sum same counted = absurd (omega arith)
+Counted-next d (suc j) count s t some few small sum same counted =
+    let next : suc (suc j) ≡ suc j + 1 = omega arith in
+    subst (λ (m : ℕ). Counted d (suc j + 1) (count * s / m)) (sym same) (record {
+      is = choose-next d (suc j) count s some sum counted.is;
+      bound = subst (λ (m : ℕ). count * s / suc j ≤ most m) next (most-next j count s (omega arith) counted.bound);
+    })
 
 pub Counted-first : (d : ℕ) → Counted d 1 1
 Counted-first d = record { is = sym (ap (λ m. choose m 0) (omega arith) ∙ choose-zero d); bound = omega arith }

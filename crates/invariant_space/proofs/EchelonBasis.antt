@@ -1,31 +1,8 @@
 -- The kernel of the equations gives the echelon basis of the invariants, and there is one such basis.
-use Rattle.std.proofs.Common.{◌≡◌, ◌↔◌, ℕ, ◌≤◌, List, [], ◌∷◌, length, map, replicate, sym, ap, ◌∙◌, refl, subst, arith}
-use Rattle.std.proofs.lemmas.List.{length-map}
-use Rattle.std.specs.List.{zip, AllByRecursion as Each}
-use Rattle.alg_core.specs.Rings.{Ring}
-use Rattle.alg_core.specs.Fields.{FieldOn, Scalar, scalars}
-use Rattle.alg_core.specs.Keys.{Key}
-use Rattle.alg_core.specs.Spaces.{SpaceOver}
-use Rattle.alg_core.specs.SpaceOrder.{key_order}
-use Rattle.alg_core.specs.Vectors.{Vect, vectors}
-use Rattle.poly_module.specs.Modules.{IsSubspace}
-use Rattle.alg_core.specs.Lists.{In}
-use Rattle.poly_module.specs.Parts.{Supp, supp_zero, supp_plus, supp_act}
-use Rattle.poly_module.specs.Forms.{OfDegree}
+use Rattle.invariant_space.proofs.Common.{◌≡◌, ◌↔◌, ℕ, ◌≤◌, List, [], ◌∷◌, length, map, replicate, sym, ap, ◌∙◌, refl, subst, arith, length-map, Each, Ring, FieldOn, Scalar, scalars, Key, SpaceOver, key_order, Vect, vectors, IsSubspace, In, Supp, supp_zero, supp_plus, supp_act, OfDegree, Matrix, vector, columns, InSpan, PivotRow, rows, IsReducedEchelon, rows_of, vectors_of, IsKernelVector, span_member, Each_weaker, Each_of_map, length_cut, Invariant, act_linear, IsInvariantForm, IsEchelonBasis, IsMonomialList, row_polynomial, coordinates, AreEquations}
+use Rattle.std.specs.List.{zip}
 use Rattle.poly_module.proofs.Echelon.{echelon_unique}
-use Rattle.lin_algebra.specs.declared.matrix.Matrix.{Matrix}
-use Rattle.lin_algebra.specs.Vectors.{vector, vectors as columns}
-use Rattle.alg_core.specs.Spans.{InSpan}
-use Rattle.lin_algebra.specs.Echelons.{PivotRow, rows, IsReducedEchelon}
-use Rattle.lin_algebra.specs.Matrices.{rows_of, vectors_of, IsKernelVector}
-use Rattle.lin_algebra.proofs.SpanLaws.{span_member}
-use Rattle.lin_algebra.proofs.EachLaws.{Each_weaker, Each_of_map}
-use Rattle.lin_algebra.proofs.CutLaws.{length_cut}
-use Rattle.matrix_group.specs.Actions.{Invariant}
-use Rattle.matrix_group.proofs.ActionLaws.{act_linear}
 use Rattle.matrix_group.proofs.InvariantLaws.{invariant_zero, invariant_plus}
-use Rattle.invariant_space.specs.InvariantSpaces.{IsInvariantForm, IsEchelonBasis}
-use Rattle.invariant_space.specs.Equations.{IsMonomialList, row_polynomial, coordinates, AreEquations}
 use Rattle.invariant_space.proofs.EchelonRows.{echelon_rows}
 use Rattle.invariant_space.proofs.EquationLaws.{kernel_solves}
 use Rattle.invariant_space.proofs.ImageLaws.{invariant_keys, keys_form, keys_variables}

@@ -1,28 +1,10 @@
 -- Rows in reduced echelon form are a reduced echelon list of polynomials.
-use Rattle.std.proofs.Common.{◌≡◌, ◌↔◌, ℕ, suc, ◌<◌, ◌≤◌, inl, inr, List, [], ◌∷◌, length, map, slice_index_or, sym, ap, ◌∙◌, refl, subst, arith}
-use Rattle.std.proofs.lemmas.List.{get_or_default}
-use Rattle.std.specs.List.{AllByRecursion as Each}
-use Rattle.std.specs.declared.cmp.Ordering.TheVariants.{Less}
-use native.Mathlib.Decide.{dec_le}
-use Rattle.alg_core.specs.Fields.{FieldOn, Scalar, scalars, is_field}
-use Rattle.alg_core.specs.Monomials.{monomials}
-use Rattle.alg_core.specs.Keys.{Key}
-use Rattle.alg_core.specs.KeyLists.{Falls}
-use Rattle.alg_core.specs.KeyOrders.{OrderOn}
-use Rattle.alg_core.specs.Lists.{In}
-use Rattle.alg_core.specs.Vectors.{Vect, vectors, coef_at}
-use Rattle.poly_module.specs.Parts.{Supp}
+use Rattle.invariant_space.proofs.Common.{◌≡◌, ◌↔◌, ℕ, suc, ◌<◌, ◌≤◌, inl, inr, List, [], ◌∷◌, length, map, slice_index_or, sym, ap, ◌∙◌, refl, subst, arith, get_or_default, Each, Less, dec_le, FieldOn, Scalar, scalars, is_field, monomials, Key, Falls, OrderOn, In, Vect, vectors, coef_at, Supp, Row, AreRows, columns, InSpan, PivotRow, rows, IsPivotRow, Precedes, IsReducedEchelon, Each_at, span_member, row_polynomial, coordinates, from_map, Each_map}
 use Rattle.poly_module.specs.Echelons.{Spans, IsEchelon}
 use Rattle.alg_core.proofs.SpanLaws.{span_map}
-use Rattle.poly_module.proofs.EchelonLists.{Row, AreRows, IsRow}
+use Rattle.poly_module.proofs.EchelonLists.{IsRow}
 use Rattle.poly_module.proofs.EchelonLists as echelons
 use Rattle.poly_module.proofs.Echelon as echelon
-use Rattle.lin_algebra.specs.Vectors.{vectors as columns}
-use Rattle.alg_core.specs.Spans.{InSpan}
-use Rattle.lin_algebra.specs.Echelons.{PivotRow, rows, IsPivotRow, Precedes, IsReducedEchelon}
-use Rattle.lin_algebra.proofs.EachLaws.{Each_at}
-use Rattle.lin_algebra.proofs.SpanLaws.{span_member}
-use Rattle.invariant_space.specs.Equations.{row_polynomial, coordinates}
 use Rattle.invariant_space.proofs.RowPolynomials.{falls_at, row_polynomial_linear, row_keys, coef_row, coordinates_row_all, row_coordinates, row_lead}
 
 module _ {E : Type 0} (k : FieldOn E) (o : OrderOn Key) where
@@ -102,31 +84,19 @@ module _ {E : Type 0} (k : FieldOn E) (o : OrderOn Key) where
     polynomials_of_rows [] = refl
     polynomials_of_rows (e ∷ l) = ap (λ vs. row_polynomial k ts e.1 ∷ vs) (polynomials_of_rows l)
 
-    echelon_of_rows : (l : List (Row k)) → AreRows k o l → IsEchelon k o (Spans k (echelons.rows k l)) (echelons.rows k l)
-    echelon_of_rows l a = echelon.echelon_rows k o (echelons.rows k l) l (record { are = a; inside = λ v s. s; outside = λ v s. s })
-
-    -- a member of the list of polynomials is that of a row
-    row_of_polynomial : (l : List (PivotRow (Scalar k))) (v : Vect k) → In v (polynomials l) → (w : ℕ → Scalar k) × In w (rows (scalars k) l) × (row_polynomial k ts w ≡ v)
-    row_of_polynomial [] v i = absurd i
-    row_of_polynomial (e ∷ l) v (inl q) = (e.1, inl refl, q)
-    row_of_polynomial (e ∷ l) v (inr i) = let r = row_of_polynomial l v i in (r.0, inr r.1, r.2)
-
-    past_rows : (l : List (PivotRow (Scalar k))) → Each (λ f. Past f.1) l → Each Past (rows (scalars k) l)
-    past_rows [] h = tt
-    past_rows (e ∷ l) h = (h.0, past_rows l h.1)
-
     -- The polynomials whose coordinates are the combinations of rows in reduced echelon form have, as their reduced
     -- echelon list, the polynomials of the rows.
     pub echelon_rows : (l : List (PivotRow (Scalar k))) → IsReducedEchelon (scalars k) l → Each (λ e. (j : ℕ) → length ts ≤ j → e.1 j ≡ (scalars k).zero) l
         → (U : Vect k → Type 0) → ((f : Vect k) → U f → Supp k (λ t. In t ts) f)
         → ((f : Vect k) → Supp k (λ t. In t ts) f → (U f ↔ InSpan (columns (scalars k)) (rows (scalars k) l) (coordinates k ts f)))
         → IsEchelon k o U (map (row_polynomial k ts) (rows (scalars k) l))
-    echelon_rows l r past U keys same = echelon_within U (Spans k (polynomials l)) (polynomials l) inside within (subst (λ us. IsEchelon k o (Spans k us) us) (polynomials_of_rows l) (echelon_of_rows (map polynomial_row l) (are_rows l r past)))
+    echelon_rows l r past U keys same = echelon_within U (Spans k (polynomials l)) (polynomials l) inside within (subst (λ us. IsEchelon k o (Spans k us) us) (polynomials_of_rows l)
+        (echelon.echelon_rows k o _ (map polynomial_row l) (record { are = are_rows l r past; inside = λ v s. s; outside = λ v s. s })))
       where
         inside : (v : Vect k) → In v (polynomials l) → U v
         inside v i =
-            let w = row_of_polynomial l v i in
-            let is = coordinates_row_all k o ts falls w.0 (Each_at Past (rows (scalars k) l) (past_rows l past) w.0 w.1) in
+            let w = from_map (row_polynomial k ts) v (rows (scalars k) l) i in
+            let is = coordinates_row_all k o ts falls w.0 (Each_at Past (rows (scalars k) l) (Each_map Past (λ e. e.1) l past) w.0 w.1) in
             subst U w.2 ((same _ (row_keys k ts w.0)).1 (subst (InSpan (columns (scalars k)) (rows (scalars k) l)) (sym is)
             (Each_at (InSpan (columns (scalars k)) (rows (scalars k) l)) (rows (scalars k) l) (span_member (columns (scalars k)) (rows (scalars k) l)) w.0 w.1)))
 

@@ -1,37 +1,12 @@
 -- The equations of the invariants: their entries, and what solves them.
-use Rattle.std.proofs.Common.{◌≡◌, ◌↔◌, ◌⊎◌, ℕ, ◌+◌, ◌*◌, ◌<◌, ◌≤◌, inl, inr, List, [], ◌∷◌, ◌++◌, length, get_or, Vec, Global, sym, ap, ap₂, subst, ◌∙◌, arith}
-use Rattle.std.specs.Prelude.{All}
-use Rattle.std.specs.List.{AllByRecursion as Each}
-use Rattle.std.proofs.lemmas.Bool.{cases_lt}
-use Rattle.std.proofs.lemmas.List.{get_or_default, get_or_read, length-append}
-use Rattle.std.proofs.lemmas.List.Elements.{All-append, All-from_recursion, recursion_from_All}
-use Rattle.alg_core.specs.Rings.{Ring, Linear}
+use Rattle.invariant_space.proofs.Common.{◌≡◌, ◌↔◌, ℕ, ◌+◌, ◌*◌, ◌<◌, ◌≤◌, List, [], ◌∷◌, ◌++◌, length, get_or, Vec, Global, sym, ap, ap₂, subst, ◌∙◌, arith, All, Each, get_or_default, get_or_read, length-append, All-append, All-from_recursion, recursion_from_All, Ring, Linear, FieldOn, Has, Scalar, scalars, scalar, scalar_add, scalar_neg, scalar_one, Key, Falls, OrderOn, In, Vect, vectors, coef_at, coef_at_ext, Supp, supp_outside, coef_at_linear, linear_unique_supp, single_vector, Matrix, IsMatrix, IsKernelVector, cut, rows_of, dot, unit, vector, IsRow, columns, cut_more, length_cut, dot_add_right, dot_act_right, dot_unit, unit_at, unit_comm, unit_other, Each_append, Each_append_left, Each_append_right, act_by, Invariant, IsSquare, act_linear, IsMonomialList, coordinates, Solves, AreImages, EachAt, in_contains, in_or_not, key_same, below_more}
+use Rattle.alg_core.specs.FormalSums.{regular}
+use Rattle.lin_algebra.specs.Matrices.{entries}
 use Rattle.alg_core.specs.RingLaws as rings
 use Rattle.alg_core.specs.ModuleLaws as modules
-use Rattle.alg_core.specs.FormalSums.{regular}
-use Rattle.alg_core.specs.Fields.{FieldOn, Has, Scalar, scalars, scalar, scalar_add, scalar_neg, scalar_one}
-use Rattle.alg_core.specs.Keys.{Key}
-use Rattle.alg_core.specs.KeyLists.{Falls}
-use Rattle.alg_core.specs.KeyOrders.{OrderOn}
-use Rattle.alg_core.specs.Lists.{In}
-use Rattle.alg_core.specs.Vectors.{Vect, vectors, coef_at}
-use Rattle.alg_core.proofs.VectorLaws.{coef_at_ext}
-use Rattle.poly_module.specs.Parts.{Supp, supp_outside, coef_at_linear, linear_unique_supp}
-use Rattle.poly_module.specs.Polynomials.{single_vector}
-use Rattle.lin_algebra.specs.declared.matrix.Matrix.{Matrix}
-use Rattle.lin_algebra.specs.Matrices.{IsMatrix, IsKernelVector, cut, entries, rows_of}
-use Rattle.lin_algebra.specs.Vectors.{dot, unit, vector, IsRow, vectors as columns}
-use Rattle.lin_algebra.proofs.CutLaws.{cut_more, length_cut}
-use Rattle.lin_algebra.proofs.DotLaws.{dot_add_right, dot_act_right, dot_unit, unit_at, unit_comm, unit_other}
-use Rattle.lin_algebra.proofs.EachLaws.{Each_append, Each_append_left, Each_append_right}
-use Rattle.matrix_group.specs.Actions.{act_by, Invariant, IsSquare}
-use Rattle.matrix_group.proofs.ActionLaws.{act_linear}
-use Rattle.invariant_space.specs.Equations.{IsMonomialList, coordinates, Solves}
-use Rattle.invariant_space.specs.Images.{AreImages}
-use Rattle.invariant_space.specs.Monomials.{EachAt}
 use Rattle.invariant_space.proofs.ImageLaws.{act_keys}
-use Rattle.invariant_space.proofs.Places.{element_at, place_in}
-use Rattle.invariant_space.proofs.RowPolynomials.{in_keys, coordinates_at, coordinates_past, coordinates_linear, coordinates_single}
+use Rattle.invariant_space.proofs.Places.{element_at}
+use Rattle.invariant_space.proofs.RowPolynomials.{coordinates_at, coordinates_past, coordinates_linear, coordinates_single}
 
 -- a product at one vector is linear in the other
 dot_linear : {K : Type 0} (R : Ring K) (n : ℕ) (u : ℕ → K) → Linear (columns R) (regular R) (dot R n u)
@@ -70,7 +45,7 @@ module _ {E : Type 0} (k : FieldOn E) where
 
       at : (u : Key) → In u ts → plus (dot (scalars k) n (vector k row) (coordinates k ts (single_vector k u))) (coef_at k (single_vector k u) t) ≡ coef_at k (act_by k m (single_vector k u)) t
       at u i =
-          let l = place_in ts u i in
+          let l = in_contains u ts i in
           let c = images.count in
           let inside : l.0 < n = let a = l.1 in omega arith in
           let column : coordinates k ts (single_vector k u) ≡ unit (scalars k) l.0 = λ r j. coordinates_single k o ts falls l.0 u l.1 l.2 j r in
@@ -121,45 +96,40 @@ module _ {E : Type 0} (k : FieldOn E) where
   pub fixed_more : (ts : List Key) (m : Matrix E) (f : Vect k) (s : ℕ) (Old New Start : Type 0) (x : Scalar k) → s < length ts → (New ↔ (Old × (x ≡ (scalars k).zero))) → ((t : Key) → get_or ts s t ≡ t → (scalars k).◌+◌ x (coef_at k f t) ≡ coef_at k (act_by k m f) t)
       → (Old ↔ (Start × FixedBelow m ts s f)) → (New ↔ (Start × FixedBelow m ts (s + 1) f))
   fixed_more ts m f s Old New Start x h both equation was = (
-    λ z. let y = both.0 z in let w = was.0 y.0 in (w.0, λ p t low e. go p t e low y.1 w.1 (cases_lt p s)),
+    λ z.
+        let y = both.0 z in
+        let w = was.0 y.0 in
+        let here = λ (t : Key) (e : get_or ts s t ≡ t). sym (equation t e) ∙ ap (λ y. plus y (coef_at k f t)) y.1 ∙ rings.zero_add (scalars k) _ in
+        (w.0, λ p t low e. below_more (λ p. (t : Key) → get_or ts p t ≡ t → coef_at k (act_by k m f) t ≡ coef_at k f t) s (λ p l t e. w.1 p t l e) here p low t e),
     λ z. both.1 (
       was.1 (z.0, λ p t low e. z.1 p t (omega arith) e),
       let t = element_at ts s h in let here : s < s + 1 = omega arith in
           rings.add_cancel (scalars k) (coef_at k f t.0) _ _ ((scalars k).add_comm _ _ ∙ equation t.0 t.1 ∙ z.1 s t.0 here t.1 ∙ sym ((scalars k).add_zero _)),
     ),
   )
-    where
-      go : (p : ℕ) (t : Key) → get_or ts p t ≡ t → p < s + 1 → x ≡ (scalars k).zero → FixedBelow m ts s f → (p < s) ⊎ (s ≤ p) → coef_at k (act_by k m f) t ≡ coef_at k f t
-      go p t e low z w (inl l) = w p t l e
-      go p t e low z w (inr l) = let same : p ≡ s = omega arith in sym (equation t (ap (λ q. get_or ts q t) (sym same) ∙ e)) ∙ ap (λ y. plus y (coef_at k f t)) z ∙ rings.zero_add (scalars k) _
 
   -- at all monomials
   pub fixed_all : (o : OrderOn Key) (n d : ℕ) (ts : List Key) (m : Matrix E) (f : Vect k) (s : ℕ) → IsMonomialList o n d ts → IsSquare k n m → Supp k (λ t. In t ts) f → length ts ≤ s → FixedBelow m ts s f ↔ (act_by k m f ≡ f)
-  fixed_all o n d ts m f s monomials square keys all = (λ h. coef_at_ext k _ f (λ t. go h t (in_keys t ts)), λ h p t low e. ap (λ v. coef_at k v t) h)
+  fixed_all o n d ts m f s monomials square keys all = (λ h. coef_at_ext k _ f (λ t. go h t (in_or_not key_same t ts)), λ h p t low e. ap (λ v. coef_at k v t) h)
     where
       go : FixedBelow m ts s f → (t : Key) → Dec (In t ts) → coef_at k (act_by k m f) t ≡ coef_at k f t
-      go h t (yes i) = let p = place_in ts t i in h p.0 t (let l = p.1 in omega arith) p.2
+      go h t (yes i) = let p = in_contains t ts i in h p.0 t (let l = p.1 in omega arith) p.2
       go h t (no n') = supp_outside k (λ u. In u ts) _ (act_keys k n o d ts monomials m square f keys) t n' ∙ sym (supp_outside k (λ u. In u ts) f keys t n')
 
   -- fixed by the first matrices
   abbrev pub InvariantBelow : List (Matrix E) → ℕ → Vect k → Type 0
-  InvariantBelow gens i f = (j : ℕ) (m : Matrix E) → j < i → m ≡ get_or gens j m → act_by k m f ≡ f
+  InvariantBelow gens i f = (j : ℕ) (d : Matrix E) → j < i → act_by k (get_or gens j d) f ≡ f
 
   pub invariant_more : (gens : List (Matrix E)) (i : ℕ) (m : Matrix E) (f : Vect k) (Old New : Type 0) → i < length gens → m ≡ get_or gens i m → (New ↔ (Old × (act_by k m f ≡ f))) → (Old ↔ InvariantBelow gens i f) → (New ↔ InvariantBelow gens (i + 1) f)
   invariant_more gens i m f Old New h read both was = (
-    λ z j x low e. let y = both.0 z in go j x e low y.1 (was.0 y.0) (cases_lt j i),
-    λ z. both.1 (was.1 (λ j x low e. z j x (omega arith) e), z i m (omega arith) read),
+    λ z j d low.
+        let y = both.0 z in
+        below_more (λ j. (d : Matrix E) → act_by k (get_or gens j d) f ≡ f) i (λ j l d. was.0 y.0 j d l) (λ d. subst (λ x. act_by k x f ≡ f) (read ∙ get_or_default gens i m d h) y.1) j low d,
+    λ z. both.1 (was.1 (λ j d low. z j d (omega arith)), subst (λ x. act_by k x f ≡ f) (sym read) (z i m (omega arith))),
   )
-    where
-      go : (j : ℕ) (x : Matrix E) → x ≡ get_or gens j x → j < i + 1 → act_by k m f ≡ f → InvariantBelow gens i f → (j < i) ⊎ (i ≤ j) → act_by k x f ≡ f
-      go j x e low here w (inl l) = w j x l e
-      go j x e low here w (inr l) = let same : i ≡ j = omega arith in subst (λ y. act_by k y f ≡ f) (read ∙ get_or_default gens i m x h ∙ ap (λ (q : ℕ). get_or gens q x) same ∙ sym e) here
 
   pub invariant_all : (gens : List (Matrix E)) (i : ℕ) (f : Vect k) → length gens ≤ i → i ≤ length gens → InvariantBelow gens i f ↔ Invariant k gens f
-  invariant_all gens i f all within = (
-    λ h j d low. h j (get_or gens j d) (omega arith) (sym (get_or_default gens j (get_or gens j d) d low)),
-    λ h j m low e. subst (λ y. act_by k y f ≡ f) (sym e) (h j m (omega arith)),
-  )
+  invariant_all gens i f all within = (λ h j d low. h j d (omega arith), λ h j d low. h j d (omega arith))
 
   -- the kernel is what solves the rows
   pub kernel_solves : (a : Matrix E) (ts : List Key) (f : Vect k) → a.cols ≡ length ts → IsKernelVector k a (coordinates k ts f) ↔ Solves k a (coordinates k ts f)

@@ -1,39 +1,9 @@
 -- Images of the monomials of a degree, from those of the degree below.
-use Rattle.std.proofs.Common.{◌≡◌, ℕ, zero, suc, ◌<◌, ◌≤◌, inl, inr, List, [], ◌∷◌, length, replicate, get_or, Vec, Global, refl, sym, ap, ap₂, subst, ◌∙◌, arith}
-use Rattle.std.specs.Prelude.{All, Option, None, Some, IfNone, IfSome, IsSome}
-use Rattle.std.proofs.lemmas.List.{get_or_default}
-use Rattle.alg_core.specs.Fields.{FieldOn, Has, Scalar, scalars, scalar, scalar_one}
-use Rattle.alg_core.specs.Monomials.{monomials}
-use Rattle.alg_core.specs.Keys.{Key, times_key, times_key_product}
-use Rattle.alg_core.specs.KeyLists.{Falls}
-use Rattle.alg_core.specs.KeyOrders.{OrderOn, less_irreflexive}
-use Rattle.alg_core.specs.Lists.{In}
-use Rattle.alg_core.specs.SpaceOrder.{key_order}
-use Rattle.alg_core.specs.Spaces.{SpaceOver}
-use Rattle.alg_core.specs.Vectors.{Vect, coef_at}
-use Rattle.poly_module.specs.MonomialVariables.{variable}
-use Rattle.poly_module.specs.Substitutions.{variable_vector}
-use Rattle.poly_module.specs.Forms.{IsForm}
-use Rattle.poly_module.specs.Parts.{Supp, InVariables, supp_single}
-use Rattle.poly_module.specs.Polynomials.{product, single_vector}
-use Rattle.poly_module.specs.Products.{product_single, one_vector_single}
-use Rattle.poly_module.specs.SpaceVectors.{IsPoly}
-use Rattle.lin_algebra.specs.declared.matrix.Matrix.{Matrix}
-use Rattle.lin_algebra.specs.Matrices.{entries, rows_of}
-use Rattle.lin_algebra.specs.Vectors.{vector, IsRow}
-use Rattle.lin_algebra.proofs.CutLaws.{IsRow_row}
-use Rattle.matrix_group.specs.Actions.{act_by, linear_form, IsSquare}
-use Rattle.matrix_group.proofs.ActionLaws.{act_product, act_variable, act_one, act_form, act_in_variables}
-use Rattle.matrix_group.proofs.LinearForms.{image_inside}
-use Rattle.invariant_space.specs.InvariantSpaces.{IsInvariantForm}
-use Rattle.invariant_space.specs.Equations.{IsMonomialList, coordinates}
-use Rattle.alg_core.specs.declared.term.Term.{Term}
+use Rattle.invariant_space.proofs.Common.{◌≡◌, ℕ, zero, suc, ◌<◌, ◌≤◌, inl, inr, List, [], ◌∷◌, length, replicate, get_or, Vec, Global, refl, sym, ap, ap₂, subst, ◌∙◌, arith, All, Option, None, Some, IfNone, IfSome, IsSome, get_or_default, FieldOn, Has, Scalar, scalars, scalar_one, monomials, Key, times_key, times_key_product, Falls, OrderOn, less_irreflexive, In, key_order, SpaceOver, Vect, coef_at, variable, variable_vector, IsForm, Supp, InVariables, supp_single, product, single_vector, product_single, one_vector_single, IsPoly, Matrix, rows_of, vector, IsRow, IsRow_row, act_by, linear_form, IsSquare, act_product, act_variable, act_one, act_form, act_in_variables, image_inside, IsInvariantForm, IsMonomialList, coordinates, Term, IsQuotient, IsTable, IsStep, IsCoordinates, AreImages, AllImages, IsLevel, AreSums, keys_of, contains_in, All-cons, All-nil, scalar_zero}
+use Rattle.lin_algebra.specs.Matrices.{entries}
 use Rattle.invariant_space.specs.declared.images.Level.{Level}
-use Rattle.invariant_space.specs.Images.{IsQuotient, IsTable, IsStep, IsCoordinates, AreImages, AllImages, IsLevel}
-use Rattle.invariant_space.specs.Monomials.{AreSums, keys_of}
-use Rattle.invariant_space.proofs.Places.{element_at, element_in}
+use Rattle.invariant_space.proofs.Places.{element_at}
 use Rattle.invariant_space.proofs.MonomialSums.{lowered, monomial_list, of_degree_zero, one_degree}
-use Rattle.invariant_space.proofs.QuotientLaws.{coordinates_made}
 use Rattle.invariant_space.proofs.RowPolynomials.{coef_single_same}
 
 module _ {E : Type 0} (k : FieldOn E) (n : ℕ) (o : OrderOn Key) (d : ℕ) (ts : List Key) (monomials : IsMonomialList o n d ts) where
@@ -77,26 +47,20 @@ module _ {E : Type 0} (k : FieldOn E) where
 
   -- 1 is its own image
   pub first_images : (m : Matrix E) (ts : List Key) (rows : List (Vec E Global)) (row : Vec E Global) → ts ≡ (0, monomials.one) ∷ [] → rows ≡ row ∷ [] → row.items ≡ k.one ∷ [] → AreImages k m ts rows
-  first_images m ts rows row keys is one = record { count = ap length is ∙ sym (ap length keys); each = λ l r h read t at. each l r (let n = ap length is in omega arith) (read ∙ ap (λ x. get_or x l r) is) t (sym (ap (λ x. get_or x l t) keys) ∙ at) }
+  first_images m ts rows row keys is one = subst (λ l. AreImages k m l rows) (sym keys) (subst (AreImages k m ((0, monomials.one) ∷ [])) (sym is) record { count = refl; each = each })
     where
-      only : (l : ℕ) (t : Key) → l < 1 → get_or ((0, monomials.one) ∷ []) l t ≡ t → t ≡ (0, monomials.one)
-      only zero t h e = sym e
-      only (suc l) t h e = absurd (omega arith)
+      at : (l : ℕ) → vector k (k.one ∷ []) l ≡ coordinates k ((0, monomials.one) ∷ []) (act_by k m (single_vector k (0, monomials.one))) l
+      at zero = scalar_one k ∙ sym (one_image m)
+      at (suc l) = scalar_zero k
 
-      value : (t s : Key) (l : ℕ) (x : E) → t ≡ (0, monomials.one) → s ≡ (0, monomials.one) → l < 1 → x ≡ get_or (k.one ∷ []) l x → scalar k x ≡ coef_at k (act_by k m (single_vector k t)) s
-      value t s zero x p q h e = ap (scalar k) e ∙ scalar_one k ∙ sym (one_image m) ∙ ap₂ (λ u v. coef_at k (act_by k m (single_vector k u)) v) (sym p) (sym q)
-      value t s (suc l) x p q h e = absurd (omega arith)
+      alone : IsCoordinates k ((0, monomials.one) ∷ []) (act_by k m (single_vector k (0, monomials.one))) (k.one ∷ [])
+      alone = record { row = record { count = refl; has = All-cons (Has k) k.one [] k.has_one (All-nil (Has k)) }; is = λ i l. at l i }
 
-      has : All (Has k) (k.one ∷ [])
-      has zero d h = k.has_one
-      has (suc l) d h = absurd (omega arith)
-
-      each : (l : ℕ) (r : Vec E Global) → l < 1 → r ≡ get_or (row ∷ []) l r → (t : Key) → get_or ((0, monomials.one) ∷ []) l t ≡ t → IsCoordinates k ts (act_by k m (single_vector k t)) r.items
-      each (suc l) r h read t at = absurd (omega arith)
+      each : (l : ℕ) (r : Vec E Global) → l < 1 → r ≡ get_or (row ∷ []) l r → (t : Key) → get_or ((0, monomials.one) ∷ []) l t ≡ t → IsCoordinates k ((0, monomials.one) ∷ []) (act_by k m (single_vector k t)) r.items
       each zero r h read t at =
           let items : r.items ≡ k.one ∷ [] = ap (λ (v : Vec E Global). v.items) read ∙ one in
-          coordinates_made k ts (act_by k m (single_vector k t)) r.items (ap length items ∙ sym (ap length keys)) (subst (All (Has k)) (sym items) has)
-          (λ s x low got u there. let n = ap length items in let below : s < 1 = omega arith in value t u s x (sym at) (only s u below (sym (ap (λ y. get_or y s u) keys) ∙ there)) below (got ∙ ap (λ y. get_or y s x) items))
+          subst (λ u. IsCoordinates k ((0, monomials.one) ∷ []) (act_by k m (single_vector k u)) r.items) at (subst (IsCoordinates k ((0, monomials.one) ∷ []) (act_by k m (single_vector k (0, monomials.one)))) (sym items) alone)
+      each (suc l) r h read t at = absurd (omega arith)
 
   -- the list of the monomials of degree 0
   pub first_keys : (o : OrderOn Key) (n : ℕ) (ts : List Key) → IsMonomialList o n 0 ts → ts ≡ (0, monomials.one) ∷ []
@@ -114,7 +78,7 @@ module _ {E : Type 0} (S : SpaceOver E) where
   some_first d ts below table l (Some p) step h none = refl
   some_first d ts below table l None step h none = absurd (
       let t = element_at ts l h in
-      let degree = (step.upper.all t.0).0 (element_in ts l t.0 h t.1) in
+      let degree = (step.upper.all t.0).0 (contains_in t.0 ts (l, h, t.1)) in
       let r = lowered S.field (length S.weights) d (length S.weights) t.0 (omega arith) degree degree.variables in
       let c = step.count in let low = r.2 in
       none ts below t.0 step.quotients t.1 r.0 r.1 (omega arith) ((step.lower.all r.1).1 r.3) r.4)
@@ -142,7 +106,7 @@ module _ {E : Type 0} (S : SpaceOver E) where
       let f : Vect S.field = act_by S.field m (single_vector S.field v) in
       subst (λ w. IsCoordinates S.field ts w made.items)
       (ap₂ (λ (x : ℕ) (c : ℕ → Scalar S.field). product S.field (linear_form S.field x c) f) wide (ap (vector S.field) is) ∙ sym (image_times S.field m i v inside) ∙ ap (λ s. act_by S.field m (single_vector S.field s)) q.3)
-      (times f (act_keys S.field (length S.weights) (key_order S) d below step.lower m square (single_vector S.field v) (supp_single S.field (λ s. In s below) v (element_in below u v q.1 q.2))) (images.each u row low read v q.2).is)
+      (times f (act_keys S.field (length S.weights) (key_order S) d below step.lower m square (single_vector S.field v) (supp_single S.field (λ s. In s below) v (contains_in v below (u, q.1, q.2)))) (images.each u row low read v q.2).is)
 
   -- one degree more
   pub level_step : (gens : List (Matrix E)) (d i : ℕ) (level : Level E) (sums : List (List (Term E (List ℕ)))) (p q : List (Term E (List ℕ))) (table seen : List (Vec (Option ℕ) Global)) (images : List (Vec (Vec E Global) Global))

@@ -1,3 +1,4 @@
+pub mod Common
 pub mod BinomialLaws
 pub mod Places
 pub mod RowPolynomials

@@ -1,43 +1,16 @@
 -- The sum of all monomials of a degree: its keys are these monomials, each with the coefficient 1.
-use Rattle.std.proofs.Common.{◌≡◌, ◌⊎◌, ℕ, zero, suc, ◌+◌, ◌<◌, ◌≤◌, inl, inr, List, [], ◌∷◌, length, map, get_or, replicate, refl, sym, ap, ap₂, subst, ◌∙◌, arith}
-use Rattle.std.specs.Prelude.{All}
-use Rattle.std.proofs.lemmas.List.Elements.{All-from_recursion, recursion_from_All}
-use Rattle.std.specs.declared.cmp.Ordering.TheVariants.{Less}
-use native.Mathlib.Decide.{ℕ_discrete, dec_le}
+use Rattle.invariant_space.proofs.Common.{◌≡◌, ◌⊎◌, ℕ, zero, suc, ◌+◌, ◌<◌, ◌≤◌, inl, inr, List, [], ◌∷◌, length, map, get_or, replicate, refl, sym, ap, ap₂, subst, ◌∙◌, arith, All, All-from_recursion, recursion_from_All, Less, ℕ_discrete, dec_le, FieldOn, scalars, is_field, Mon, monomials, mono, exponent, exponent_mono, exponent_mul, mon_ext, Divides, divides_dec, TermPlace, Key, key, times_key, Falls, greater_less, In, weight, weight_ext, key_order, key_compare_places, Entry, vec, coef_at, plus, shift, zero_vector, Term, SpaceOver, entries, Fits, IsAbove, coef_at_plus, vec_nothing, total, greatest, after_zeros, variable, Supp, supp_zero, supp_plus, supp_single, supp_shift, supp_weaken, supp_outside, one_vector, product, one_vector_single, shift_product, variable_vector, IsPolyOf, IsVectorOf, vector_of, vec_supp, fits_keys, within_product, coef_shift, coef_shift_outside, Each_at, Each_from, Each_map, Each_of_map, length_variable, IsOfDegree, IsMonomialList, keys_of, next_sum, all_monomials, weight_variable}
 use Rattle.alg_core.specs.ExponentLists.{Within, product as list_product}
-use Rattle.alg_core.specs.RingLaws as rings
-use Rattle.alg_core.specs.Fields.{FieldOn, scalars, is_field}
-use Rattle.alg_core.specs.Monomials.{Mon, monomials, mono, exponent, exponent_mono, exponent_mul, mon_ext, Divides, divides_dec}
 use Rattle.alg_core.specs.CommonMultiples.{divides_exponents, exponents_divide}
-use Rattle.alg_core.specs.Keys.{TermPlace, Key, key, times_key}
-use Rattle.alg_core.specs.KeyLists.{Falls}
-use Rattle.alg_core.specs.KeyOrders.{greater_less}
-use Rattle.alg_core.specs.Lists.{In}
-use Rattle.alg_core.specs.SpaceGrading.{weight, weight_ext, weight_mul}
-use Rattle.alg_core.specs.SpaceOrder.{key_order, key_compare_places}
-use Rattle.alg_core.specs.Vectors.{Entry, vec, coef_at, plus, shift, zero_vector}
-use Rattle.alg_core.specs.declared.term.Term.{Term}
-use Rattle.alg_core.specs.Spaces.{SpaceOver, entries, Fits, IsAbove}
+use Rattle.alg_core.specs.SpaceGrading.{weight_mul}
 use Rattle.alg_core.proofs.MonomialLists.{exponent_past, length_mon, length_mul, length_one}
-use Rattle.alg_core.proofs.VectorLaws.{coef_at_plus, vec_nothing}
 use Rattle.poly_module.specs.Forms.{key_weight, dec_both}
-use Rattle.poly_module.specs.GreatestExponents.{total, greatest}
-use Rattle.poly_module.specs.MonomialVariables.{after_zeros, variable}
-use Rattle.poly_module.specs.Parts.{Supp, supp_zero, supp_plus, supp_single, supp_shift, supp_weaken, supp_outside}
-use Rattle.poly_module.specs.Polynomials.{one_vector, product}
-use Rattle.poly_module.specs.Products.{one_vector_single, shift_product}
-use Rattle.poly_module.specs.Substitutions.{variable_vector}
 use Rattle.poly_module.specs.Sizes.{HasRoom}
-use Rattle.poly_module.specs.SpaceVectors.{IsPolyOf, IsVectorOf, vector_of}
 use Rattle.poly_module.proofs.EntryCoefficients.{term_at_index}
-use Rattle.poly_module.proofs.ExponentBounds.{vec_supp, fits_keys, within_product}
 use Rattle.poly_module.proofs.SpaceVectorLaws.{poly_given, vector_given}
-use Rattle.poly_module.proofs.LeadLaws.{coef_shift, coef_shift_outside}
-use Rattle.lin_algebra.proofs.EachLaws.{Each_at, Each_from, Each_map, Each_of_map}
-use Rattle.matrix_group.proofs.LinearForms.{length_variable, variable_form}
-use Rattle.invariant_space.specs.InvariantSpaces.{IsOfDegree}
-use Rattle.invariant_space.specs.Equations.{IsMonomialList}
-use Rattle.invariant_space.specs.Monomials.{keys_of, next_sum, all_monomials}
+use native.Mathlib.Decide.{map_dec}
+use Rattle.matrix_group.proofs.FamilyLaws.{weight_ones}
+use Rattle.alg_core.specs.RingLaws as rings
 use Rattle.invariant_space.proofs.RowPolynomials.{coef_single_same}
 
 variable_at : (i : ℕ) → exponent (variable i).0 i ≡ 1
@@ -85,42 +58,26 @@ not_both i m short d = let a = divides_exponents (variable i) m d i in let b = v
 pub nothing_left : (m : Mon) → length m.0 ≤ 0 → m ≡ monomials.one
 nothing_left m h = mon_ext m monomials.one (λ i. exponent_past m.0 i (omega arith) ∙ sym (exponent_past monomials.one.0 i (let l = length_one 0 in omega arith)))
 
-weight_total : (n i : ℕ) (a : List ℕ) → length a ≡ n → weight (replicate n 1) i a ≡ total a
-unfolding weight
-weight_total zero i [] e = refl
-weight_total zero i (x ∷ a) e = absurd (omega arith)
-weight_total (suc n) i [] e = absurd (omega arith)
-weight_total (suc n) i (x ∷ a) e = let r = weight_total n (suc i) a (omega arith) in omega arith
-
 -- the degree of a place is the sum of its exponents
 degree_place : (n d : ℕ) (p : TermPlace) → length p.1 ≡ n → IsOfDegree n d (key p) → total p.1 ≡ d
 unfolding key
-degree_place n d p wide h = sym (weight_ext (replicate n 1) 0 (mono p.1).0 p.1 (exponent_mono p.1) ∙ weight_total n 0 p.1 wide) ∙ h.degree
+degree_place n d p wide h = sym (weight_ext (replicate n 1) 0 (mono p.1).0 p.1 (exponent_mono p.1) ∙ weight_ones n 0 p.1 (omega arith)) ∙ h.degree
 
 greatest_total : (a : List ℕ) → greatest a ≤ total a
 greatest_total [] = omega arith
 greatest_total (x ∷ a) = let h = greatest_total a in omega arith
 
 pub of_degree : (n d : ℕ) (t : Key) → Dec (IsOfDegree n d t)
-of_degree n d t = go (ℕ_discrete t.0 0) (dec_le (length t.1.0) n) (ℕ_discrete (key_weight (replicate n 1) t) d)
-  where
-    go : Dec (t.0 ≡ 0) → Dec (length t.1.0 ≤ n) → Dec (key_weight (replicate n 1) t ≡ d) → Dec (IsOfDegree n d t)
-    go (yes p) (yes q) (yes r) = yes (record { position = p; variables = q; degree = r })
-    go (no p) q r = no (λ h. p h.position)
-    go (yes p) (no q) r = no (λ h. q h.variables)
-    go (yes p) (yes q) (no r) = no (λ h. r h.degree)
+of_degree n d t = map_dec (λ h. record { position = h.0; variables = h.1.0; degree = h.1.1 }) (λ h. (h.position, (h.variables, h.degree)))
+    (dec_both (ℕ_discrete t.0 0) (dec_both (dec_le (length t.1.0) n) (ℕ_discrete (key_weight (replicate n 1) t) d)))
 
 module _ {E : Type 0} (k : FieldOn E) (n : ℕ) where
-  weight_variable : (i : ℕ) → i < n → weight (replicate n 1) 0 (variable i).0 ≡ 1
-  unfolding variable_vector
-  weight_variable i h = (variable_form k i n h (0, variable i) (λ z. (is_field k).one_not_zero (sym (coef_single_same k (0, variable i) (0, variable i) refl) ∙ z))).1
-
   -- a variable times a monomial
   times_degree : (d i : ℕ) (t : Key) → i < n → IsOfDegree n d t → IsOfDegree n (suc d) (times_key (variable i) t)
   times_degree d i t h p = record {
     position = p.position;
     variables = length_mul n (variable i) t.1 (length_variable i n h) p.variables;
-    degree = let w = weight_mul (replicate n 1) (variable i) t.1 in let v = weight_variable i h in omega (arith, w, v, p.degree);
+    degree = let w = weight_mul (replicate n 1) (variable i) t.1 in let v = weight_variable i n h in omega (arith, w, v, p.degree);
   }
 
   -- a multiple of a variable
@@ -133,7 +90,7 @@ module _ {E : Type 0} (k : FieldOn E) (n : ℕ) where
   quotient_weight : (i : ℕ) (t : Key) → i < n → (q : Divides (variable i) t.1) → suc (key_weight (replicate n 1) (t.0, q.0)) ≡ key_weight (replicate n 1) t
   quotient_weight i t h q =
       let w = weight_mul (replicate n 1) (variable i) q.0 in
-      let v = weight_variable i h in
+      let v = weight_variable i n h in
       let e : weight (replicate n 1) 0 (monomials.◌·◌ (variable i) q.0).0 ≡ weight (replicate n 1) 0 t.1.0 = ap (λ (m : Mon). weight (replicate n 1) 0 m.0) q.1 in
       omega arith
 
@@ -269,7 +226,7 @@ module _ {E : Type 0} (S : SpaceOver E) where
   pub sum_room : (d i : ℕ) (x p : Terms) → d < 12288 → i < length S.weights → IsPolyOf S (λ m. m) (variable_vector S.field i) x → IsPolyOf S (λ m. m) (all_monomials S.field d (suc i)) p → HasRoom 4294967295 (λ m. m) x p
   unfolding variable_vector
   sum_room d i x p small h one sum = room 1 d 4294967295 (entries (λ m. m) x) (entries (λ m. m) p) (omega arith) one.fits
-      (subst (Supp S.field (IsOfDegree n 1)) (sym one.is) (supp_single S.field (IsOfDegree n 1) (0, variable i) (record { position = refl; variables = length_variable i n h; degree = weight_variable S.field n i h })))
+      (subst (Supp S.field (IsOfDegree n 1)) (sym one.is) (supp_single S.field (IsOfDegree n 1) (0, variable i) (record { position = refl; variables = length_variable i n h; degree = weight_variable i n h })))
       sum.fits (subst (Supp S.field (IsOfDegree n d)) (sym sum.is) (λ t c. (all_supp S.field n d (suc i) (omega arith) t c).0))
 
   pub sum_more : (d i : ℕ) (x p m a s : Terms) → i < length S.weights → IsPolyOf S (λ m. m) (variable_vector S.field i) x → IsPolyOf S (λ m. m) (all_monomials S.field d (suc i)) p → IsVectorOf S (λ m. m) (product S.field (vector_of S (λ m. m) x) (vector_of S (λ m. m) p)) m

@@ -1,12 +1,5 @@
 -- What holds of each element of a list at its place.
-use Rattle.std.proofs.Common.{◌≡◌, ◌⊎◌, ℕ, zero, suc, ◌+◌, ◌<◌, ◌≤◌, inl, inr, List, [], ◌∷◌, ◌++◌, length, get_or, refl, sym, ap, subst, ◌∙◌, arith}
-use Rattle.std.proofs.lemmas.Bool.{cases_lt}
-use Rattle.std.proofs.lemmas.List.{get_or_append_left, get_or_default, get_or_push, length-append}
-use Rattle.alg_core.specs.Lists.{In}
-use Rattle.alg_core.specs.Keys.{Key, key}
-use Rattle.alg_core.specs.Spaces.{place}
-use Rattle.alg_core.specs.declared.term.Term.{Term}
-use Rattle.invariant_space.specs.Monomials.{EachAt, keys_of}
+use Rattle.invariant_space.proofs.Common.{◌≡◌, ◌⊎◌, ℕ, zero, suc, ◌+◌, ◌<◌, ◌≤◌, inl, inr, List, [], ◌∷◌, ◌++◌, length, get_or, refl, sym, ap, subst, ◌∙◌, arith, cases_lt, get_or_append_left, get_or_default, get_or_push, length-append, Key, key, place, Term, EachAt, keys_of}
 
 pub at_none : {A : Type 0} (P : ℕ → A → Type 0) (l : List A) → l ≡ [] → EachAt P l
 at_none P l none i x h e = let n = ap length none in absurd (omega (arith, n))
@@ -38,16 +31,6 @@ pub element_at : {X : Type 0} (l : List X) (p : ℕ) → p < length l → (x : X
 element_at [] p h = absurd (omega arith)
 element_at (y ∷ l) zero h = (y, refl)
 element_at (y ∷ l) (suc p) h = element_at l p (omega arith)
-
-pub element_in : {X : Type 0} (l : List X) (p : ℕ) (x : X) → p < length l → get_or l p x ≡ x → In x l
-element_in [] p x h e = absurd (omega arith)
-element_in (y ∷ l) zero x h e = inl e
-element_in (y ∷ l) (suc p) x h e = inr (element_in l p x (omega arith) e)
-
-pub place_in : {X : Type 0} (l : List X) (x : X) → In x l → (p : ℕ) × (p < length l) × (get_or l p x ≡ x)
-place_in [] x i = absurd i
-place_in (y ∷ l) x (inl e) = (0, omega arith, e)
-place_in (y ∷ l) x (inr i) = let r = place_in l x i in (suc r.0, (let h = r.1 in omega arith), r.2)
 
 module _ {E : Type 0} where
   -- the keys of terms

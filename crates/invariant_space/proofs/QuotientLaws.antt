@@ -1,28 +1,7 @@
 -- Products with linear forms, by the places of quotients.
-use Rattle.std.proofs.Common.{◌≡◌, ◌⊎◌, ℕ, suc, ◌<◌, ◌≤◌, inl, inr, List, length, get_or, Vec, Global, refl, sym, ap, ap₂, ◌∙◌, arith}
-use Rattle.std.specs.Prelude.{All, Option, None, Some, IfNone, IfSome}
+use Rattle.invariant_space.proofs.Common.{◌≡◌, ◌⊎◌, ℕ, suc, ◌<◌, ◌≤◌, inl, inr, List, length, get_or, Vec, Global, refl, sym, ap, ap₂, ◌∙◌, arith, All, Option, None, Some, IfNone, IfSome, cases_lt, get_or_past, get_or_read, FieldOn, Has, Scalar, scalars, scalar, scalar_zero, scalar_add, scalar_mul, Mon, monomials, mono, divides_dec, Divides, TermPlace, Key, key, times_key, times_key_cancel, KeyDivides, In, Vect, vectors, coef_at, plus, shift, coef_at_plus, coef_at_zero, variable, variable_vector, Supp, supp_outside, product, plus_product, zero_product, product_linear_left, shift_product, coef_at_act, coef_shift, coef_shift_outside, vector, linear_form, coordinates, IsQuotient, IsTable, IsCoordinates, EachAt, in_contains}
 use Rattle.std.specs.Option.{unwrap_or}
-use Rattle.std.proofs.lemmas.Bool.{cases_lt}
-use Rattle.std.proofs.lemmas.List.{get_or_past, get_or_read}
-use Rattle.alg_core.specs.Fields.{FieldOn, Has, Scalar, scalars, scalar, scalar_zero, scalar_add, scalar_mul}
-use Rattle.alg_core.specs.Monomials.{Mon, monomials, mono, divides_dec, Divides}
-use Rattle.alg_core.specs.Keys.{TermPlace, Key, key, times_key, times_key_cancel, KeyDivides}
-use Rattle.alg_core.specs.Lists.{In}
-use Rattle.alg_core.specs.Vectors.{Vect, vectors, coef_at, plus, shift}
-use Rattle.alg_core.proofs.VectorLaws.{coef_at_plus, coef_at_zero}
-use Rattle.poly_module.specs.MonomialVariables.{variable}
-use Rattle.poly_module.specs.Substitutions.{variable_vector}
-use Rattle.poly_module.specs.Parts.{Supp, supp_outside}
-use Rattle.poly_module.specs.Polynomials.{product}
-use Rattle.poly_module.specs.Products.{plus_product, zero_product, product_linear_left, shift_product}
-use Rattle.poly_module.proofs.EchelonLists.{coef_at_act}
-use Rattle.poly_module.proofs.LeadLaws.{coef_shift, coef_shift_outside}
-use Rattle.lin_algebra.specs.Vectors.{vector}
-use Rattle.matrix_group.specs.Actions.{linear_form}
-use Rattle.invariant_space.specs.Equations.{coordinates}
-use Rattle.invariant_space.specs.Images.{IsQuotient, IsTable, IsCoordinates}
-use Rattle.invariant_space.specs.Monomials.{EachAt}
-use Rattle.invariant_space.proofs.Places.{element_at, place_in}
+use Rattle.invariant_space.proofs.Places.{element_at}
 use Rattle.invariant_space.proofs.RowPolynomials.{coordinates_at, coordinates_past}
 
 pub key_position : (p : TermPlace) → (key p).0 ≡ p.0
@@ -48,7 +27,7 @@ pub quotient_sought : (below : List Key) (j from : ℕ) (x t : Key) (p : TermPla
     → IfNone o ((i : ℕ) → 0 ≤ i → i < from → (v : Key) → get_or below i v ≡ v → ¬ (v ≡ key p)) → IsQuotient below j t o
 quotient_sought below j from x t p (Some u) first is e back inside found front = quotient_found below j u x t p first is e inside found
 quotient_sought below j from x t p None first is e back inside found front = λ v i q.
-    let r = place_in below v i in
+    let r = in_contains v below i in
     let same : v ≡ key p = times_key_cancel (variable j) v (key p) (q ∙ sym (times_quotient j x t p first is e)) in
     go v r.0 r.1 r.2 same (cases_lt r.0 from)
   where

@@ -1,41 +1,8 @@
 -- Polynomials from their coefficients at a falling list of keys, and back.
-use Rattle.std.proofs.Common.{◌≡◌, ℕ, zero, suc, ◌<◌, ◌≤◌, inl, inr, List, [], ◌∷◌, length, slice_index_or, sym, ap, ap₂, ◌∙◌, refl, subst, arith}
-use Rattle.std.proofs.lemmas.List.{get_or_default}
-use Rattle.std.specs.declared.cmp.Ordering.TheVariants.{Less}
-use native.Mathlib.Decide.{ℕ_discrete, dec_le}
-use Rattle.alg_core.specs.Rings.{Linear}
+use Rattle.invariant_space.proofs.Common.{◌≡◌, ℕ, zero, suc, ◌<◌, ◌≤◌, inl, inr, List, [], ◌∷◌, length, slice_index_or, sym, ap, ap₂, ◌∙◌, refl, subst, arith, get_or_default, Less, ℕ_discrete, dec_le, Linear, FieldOn, Scalar, scalars, Key, key_same, Falls, OrderOn, less_irreflexive, less_asymmetric, In, Vect, vectors, coef_at, plus, zero_vector, coef_at_ext, coef_at_plus, single_vector, Supp, supp_zero, supp_plus, supp_act, supp_single, supp_weaken, supp_outside, coef_at_single, LeadBy, coef_at_act, unit, columns, unit_at, unit_other, row_polynomial, coordinates, in_contains, contains_in, in_or_not}
+use Rattle.alg_core.specs.CanonicalLists.{indicator_yes, indicator_no}
 use Rattle.alg_core.specs.RingLaws as rings
 use Rattle.alg_core.specs.ModuleLaws as modules
-use Rattle.alg_core.specs.Fields.{FieldOn, Scalar, scalars}
-use Rattle.alg_core.specs.Keys.{Key, key_same}
-use Rattle.alg_core.specs.KeyLists.{Falls}
-use Rattle.alg_core.specs.KeyOrders.{OrderOn, less_irreflexive, less_asymmetric}
-use Rattle.alg_core.specs.Lists.{In}
-use Rattle.alg_core.specs.CanonicalLists.{indicator_yes, indicator_no}
-use Rattle.alg_core.specs.Vectors.{Vect, vectors, coef_at, plus, zero_vector}
-use Rattle.alg_core.proofs.VectorLaws.{coef_at_ext, coef_at_plus}
-use Rattle.poly_module.specs.Polynomials.{single_vector}
-use Rattle.poly_module.specs.Parts.{Supp, supp_zero, supp_plus, supp_act, supp_single, supp_weaken, supp_outside, coef_at_single}
-use Rattle.poly_module.specs.Modules.{LeadBy}
-use Rattle.poly_module.proofs.EchelonLists.{coef_at_act}
-use Rattle.lin_algebra.specs.Vectors.{unit, vectors as columns}
-use Rattle.lin_algebra.proofs.DotLaws.{unit_at, unit_other}
-use Rattle.invariant_space.specs.Equations.{row_polynomial, coordinates}
-use Rattle.invariant_space.proofs.Places.{element_in, place_in}
-
--- whether a key is in a list
-pub in_keys : (t : Key) (l : List Key) → Dec (In t l)
-in_keys t [] = no (λ i. i)
-in_keys t (s ∷ l) = go (key_same s t) (in_keys t l)
-  where
-    neither : ¬ (s ≡ t) → ¬ (In t l) → ¬ (In t (s ∷ l))
-    neither n m (inl e) = n e
-    neither n m (inr i) = m i
-
-    go : Dec (s ≡ t) → Dec (In t l) → Dec (In t (s ∷ l))
-    go (yes e) d = yes (inl e)
-    go (no n) (yes i) = yes (inr i)
-    go (no n) (no m) = no (neither n m)
 
 module _ (o : OrderOn Key) where
   -- the first key is not a later one
@@ -46,7 +13,7 @@ module _ (o : OrderOn Key) where
   pub falls_at : (ts : List Key) → Falls o ts → (p q : ℕ) (s t : Key) → p < q → q < length ts → slice_index_or ts p s ≡ s → slice_index_or ts q t ≡ t → o.compare t s ≡ Less
   falls_at [] falls p q s t h g e f = absurd (omega arith)
   falls_at (u ∷ ts) falls p zero s t h g e f = absurd (omega arith)
-  falls_at (u ∷ ts) falls zero (suc q) s t h g e f = subst (λ s. o.compare t s ≡ Less) e (falls.0 t (element_in ts q t (omega arith) f))
+  falls_at (u ∷ ts) falls zero (suc q) s t h g e f = subst (λ s. o.compare t s ≡ Less) e (falls.0 t (contains_in t ts (q, omega arith, f)))
   falls_at (u ∷ ts) falls (suc p) (suc q) s t h g e f = falls_at ts falls.1 p q s t (omega arith) (omega arith) e f
 
 module _ {E : Type 0} (k : FieldOn E) where
@@ -121,7 +88,7 @@ module _ {E : Type 0} (k : FieldOn E) where
     coordinates_single [] falls l t h e j = absurd (omega arith)
     coordinates_single (s ∷ ts) falls zero t h e zero = coef_single_same t s (sym e) ∙ sym (unit_at (scalars k) 0 0 refl)
     coordinates_single (s ∷ ts) falls zero t h e (suc j) = coordinates_none ts (single_vector k t) (λ u i. coef_single_other t u (λ p. not_later o s ts falls u i (e ∙ p))) j ∙ sym (unit_other (scalars k) 0 (suc j) (λ p. absurd (omega arith)))
-    coordinates_single (s ∷ ts) falls (suc l) t h e zero = coef_single_other t s (λ p. not_later o s ts falls t (element_in ts l t (omega arith) e) (sym p)) ∙ sym (unit_other (scalars k) (suc l) 0 (λ p. absurd (omega arith)))
+    coordinates_single (s ∷ ts) falls (suc l) t h e zero = coef_single_other t s (λ p. not_later o s ts falls t (contains_in t ts (l, omega arith, e)) (sym p)) ∙ sym (unit_other (scalars k) (suc l) 0 (λ p. absurd (omega arith)))
     coordinates_single (s ∷ ts) falls (suc l) t h e (suc j) = coordinates_single ts falls.1 l t (omega arith) e j ∙ next (ℕ_discrete l j)
       where
         next : Dec (l ≡ j) → unit (scalars k) l j ≡ unit (scalars k) (suc l) (suc j)
@@ -156,20 +123,20 @@ module _ {E : Type 0} (k : FieldOn E) where
 
     -- the polynomial of the coordinates of a polynomial in these keys is the polynomial
     pub row_coordinates : (ts : List Key) → Falls o ts → (f : Vect k) → Supp k (λ t. In t ts) f → row_polynomial k ts (coordinates k ts f) ≡ f
-    row_coordinates ts falls f keys = coef_at_ext k _ f (λ t. go t (in_keys t ts))
+    row_coordinates ts falls f keys = coef_at_ext k _ f (λ t. go t (in_or_not key_same t ts))
       where
         go : (t : Key) → Dec (In t ts) → coef_at k (row_polynomial k ts (coordinates k ts f)) t ≡ coef_at k f t
-        go t (yes i) = let p = place_in ts t i in coef_row ts falls (coordinates k ts f) p.0 t p.1 p.2 ∙ coordinates_at ts f p.0 t p.1 p.2
+        go t (yes i) = let p = in_contains t ts i in coef_row ts falls (coordinates k ts f) p.0 t p.1 p.2 ∙ coordinates_at ts f p.0 t p.1 p.2
         go t (no n) = supp_outside k (λ t. In t ts) _ (row_keys ts (coordinates k ts f)) t n ∙ sym (supp_outside k (λ t. In t ts) f keys t n)
 
     -- the first place at which the row is not 0 has the lead
     pub row_lead : (ts : List Key) → Falls o ts → (w : ℕ → Scalar k) (p : ℕ) (t : Key) → ((l : ℕ) → l < p → w l ≡ (scalars k).zero) → ¬ (w p ≡ (scalars k).zero) → p < length ts → slice_index_or ts p t ≡ t → LeadBy k o (row_polynomial k ts w) t
     unfolding coef_at
-    row_lead ts falls w p t before n h e = record { there = λ z. n (sym (coef_row ts falls w p t h e) ∙ z); above = λ s g. above s g (in_keys s ts) }
+    row_lead ts falls w p t before n h e = record { there = λ z. n (sym (coef_row ts falls w p t h e) ∙ z); above = λ s g. above s g (in_or_not key_same s ts) }
       where
         above : (s : Key) → o.compare t s ≡ Less → Dec (In s ts) → coef_at k (row_polynomial k ts w) s ≡ nought
         above s g (no m) = supp_outside k (λ t. In t ts) _ (row_keys ts w) s m
-        above s g (yes i) = let q = place_in ts s i in coef_row ts falls w q.0 s q.1 q.2 ∙ earlier q.0 q.1 q.2 (dec_le (suc q.0) p)
+        above s g (yes i) = let q = in_contains s ts i in coef_row ts falls w q.0 s q.1 q.2 ∙ earlier q.0 q.1 q.2 (dec_le (suc q.0) p)
           where
             earlier : (q : ℕ) → q < length ts → slice_index_or ts q s ≡ s → Dec (suc q ≤ p) → w q ≡ nought
             earlier q inside is (yes low) = before q (omega arith)

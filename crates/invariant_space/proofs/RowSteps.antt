@@ -1,24 +1,7 @@
 -- The polynomial of a row of coefficients, term by term.
-use Rattle.std.proofs.Common.{◌≡◌, ℕ, suc, ◌+◌, ◌<◌, ◌≤◌, List, [], ◌∷◌, ◌++◌, length, map, get_or, take, sym, ap, ap₂, subst, ◌∙◌, arith}
-use Rattle.std.specs.Prelude.{All}
-use Rattle.std.proofs.lemmas.List.{map-append, take_all, get_or_read, get_or-map, take_more, length-map, length-take-le}
-use Rattle.alg_core.specs.Fields.{FieldOn, Has, Scalar, scalars, scalar, scalar_zero}
-use Rattle.alg_core.specs.Keys.{Key, key}
-use Rattle.alg_core.specs.Vectors.{vectors, vec, plus, zero_vector}
-use Rattle.alg_core.specs.declared.term.Term.{Term}
+use Rattle.invariant_space.proofs.Common.{◌≡◌, ℕ, suc, ◌+◌, ◌<◌, ◌≤◌, List, [], ◌∷◌, ◌++◌, length, map, get_or, take, sym, ap, ap₂, subst, ◌∙◌, arith, All, map-append, take_all, get_or_read, get_or-map, take_more, length-map, length-take-le, FieldOn, Has, Scalar, scalars, scalar, Key, key, vectors, vec, plus, zero_vector, Term, SpaceOver, place, entry, entries, IsPlace, vec_append, vec_nothing, vec_single, plus_assoc, plus_zero, zero_plus, single_vector, IsPolyOf, IsVectorOf, vector_of, vec_supp, Matrix, rows_of, vectors_of, vector, length_cut, listed_more, row_polynomial, keys_of}
 use Rattle.alg_core.specs.declared.term.ModTerm.{ModTerm}
-use Rattle.alg_core.specs.Spaces.{SpaceOver, place, entry, entries, IsPlace}
-use Rattle.alg_core.proofs.VectorLaws.{vec_append, vec_nothing, vec_single, plus_assoc, plus_zero, zero_plus}
-use Rattle.poly_module.specs.Polynomials.{single_vector}
-use Rattle.poly_module.specs.SpaceVectors.{IsPolyOf, IsVectorOf, vector_of}
 use Rattle.poly_module.proofs.CheckedEntries.{all_pushed}
-use Rattle.poly_module.proofs.ExponentBounds.{vec_supp}
-use Rattle.lin_algebra.specs.declared.matrix.Matrix.{Matrix}
-use Rattle.lin_algebra.specs.Matrices.{rows_of, vectors_of}
-use Rattle.lin_algebra.specs.Vectors.{vector}
-use Rattle.lin_algebra.proofs.CutLaws.{length_cut, listed_more}
-use Rattle.invariant_space.specs.Equations.{row_polynomial}
-use Rattle.invariant_space.specs.Monomials.{keys_of}
 use Rattle.invariant_space.proofs.Places.{length_keys, keys_append}
 
 module _ {E : Type 0} (k : FieldOn E) where
@@ -47,18 +30,7 @@ module _ {E : Type 0} (S : SpaceOver E) where
       ap (λ ts. row_polynomial S.field ts (vector S.field xs)) (ap keys_of (take_more cs l c inside ∙ ap (λ y. take l cs ++ y ∷ []) (sym read)) ∙ keys_append (take l cs) (c ∷ [])) ∙ row_push S.field (keys_of (take l cs)) (key (place (λ m. m) c.at)) (vector S.field xs)
       ∙ ap (λ a. plus S.field (row_polynomial S.field (keys_of (take l cs)) (vector S.field xs)) ((vectors S.field).◌·◌ a (single_vector S.field (key (place (λ m. m) c.at))))) (ap (vector S.field xs) count ∙ ap (scalar S.field) (sym (get_or_read xs l x within there S.field.zero)))
 
-  -- a coefficient 0 adds nothing
-  pub row_skip : (cs : Terms) (xs : List E) (l : ℕ) (c : Term E (List ℕ)) (x : E) (terms : Terms) → l < length cs → c ≡ get_or cs l c → l < length xs → x ≡ get_or xs l x → x ≡ S.field.zero
-      → Row cs (vector S.field xs) l terms → Row cs (vector S.field xs) (l + 1) terms
-  unfolding zero_vector
-  row_skip cs xs l c x terms inside read within there none was = record {
-    given = was.given;
-    first = was.first;
-    is = was.is ∙ sym (row_more cs xs l c x inside read within there
-        ∙ ap (plus S.field (row_polynomial S.field (keys_of (take l cs)) (vector S.field xs))) (ap (λ b. (vectors S.field).◌·◌ b (single_vector S.field (key (place (λ m. m) c.at)))) (ap (scalar S.field) none ∙ scalar_zero S.field) ∙ (vectors S.field).zero_act _) ∙ plus_zero S.field _);
-  }
-
-  -- any other adds a term
+  -- a coefficient adds a term
   pub row_term : (cs : Terms) (xs : List E) (l : ℕ) (c : Term E (List ℕ)) (x : E) (at : ModTerm (List ℕ)) (terms new : Terms) → l < length cs → c ≡ get_or cs l c → l < length xs → x ≡ get_or xs l x → Has S.field x → IsPlace S (place (λ m. m) c.at) → c.at.pos ≡ 0
       → place (λ m. m) at ≡ place (λ m. m) c.at → new ≡ terms ++ record { coef = x; at = at } ∷ [] → Row cs (vector S.field xs) l terms → Row cs (vector S.field xs) (l + 1) new
   unfolding single_vector

@@ -7,7 +7,7 @@ ghost use Rattle.lin_algebra.specs.Vectors.{vector, IsRow};
 ghost use Rattle.invariant_space.specs.Equations.{row_polynomial};
 ghost use Rattle.invariant_space.specs.Monomials.{keys_of};
 
-use alg_core::{Field, Memory, Space, Term, TermOrder, is_zero};
+use alg_core::{Field, Memory, Space, Term, TermOrder};
 use lin_algebra::Matrix;
 use poly_module::{Poly, make};
 use std::alloc::Global;
@@ -27,11 +27,8 @@ fn polynomial<F: Field, O: TermOrder>(
     let places = monomials.terms();
     let mut terms = Vec::new(alloc);
     for l in 0..places.len() {
-        let coef = row[l];
-        if !is_zero(&space.field, coef) {
-            let at = places[l].at.copy(alloc)?;
-            terms.push(Term { coef, at })?;
-        }
+        let at = places[l].at.copy(alloc)?;
+        terms.push(Term { coef: row[l], at })?;
     }
     let made = make(alloc, space, terms.as_slice())?;
     Ok(made)

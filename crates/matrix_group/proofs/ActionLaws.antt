@@ -1,21 +1,7 @@
 -- Laws of the action.
-use Rattle.std.specs.Prelude.{◌≡◌, ℕ, zero, suc, ◌<◌, ◌≤◌, List, replicate}
-use Rattle.std.proofs.Common.{◌⊎◌, inl, inr}
-use Rattle.std.proofs.lemmas.Bool.{cases_lt}
-use mathlib.Core.Path.{sym, ap, ap₂, ◌∙◌}
-use native.Mathlib.Omega.{arith}
-use Rattle.alg_core.specs.Rings.{Linear, Homomorphism}
+use Rattle.matrix_group.proofs.Common.{◌≡◌, ℕ, zero, suc, ◌<◌, ◌≤◌, List, replicate, ◌⊎◌, inl, inr, cases_lt, sym, ap, ap₂, ◌∙◌, arith, Linear, Homomorphism, FieldOn, Scalar, scalars, scalar, Vect, vectors, plus, zero_vector, scale, polynomials, polynomial_algebra, product, one_vector, vector_ring, vector_algebra, homomorphism_after, IsPolynomial, InVariables, IsForm, image_of, variable_vector, position_vector, substitute, dot, linear_form, image, act}
 use Rattle.alg_core.specs.ModuleLaws as modules
-use Rattle.alg_core.specs.Fields.{FieldOn, Scalar, scalars, scalar}
-use Rattle.alg_core.specs.Vectors.{Vect, vectors, plus, zero_vector, scale}
-use Rattle.poly_module.specs.Polynomials.{polynomials, polynomial_algebra, product, one_vector, vector_ring, vector_algebra}
-use Rattle.poly_module.specs.Values.{homomorphism_after}
-use Rattle.poly_module.specs.Parts.{IsPolynomial, InVariables}
-use Rattle.poly_module.specs.Forms.{IsForm}
-use Rattle.poly_module.specs.Substitutions.{image as image_of, variable_vector, position_vector, substitute}
-use Rattle.lin_algebra.specs.Vectors.{dot}
 use Rattle.lin_algebra.specs.Matrices as matrices
-use Rattle.matrix_group.specs.Actions.{linear_form, image, act}
 use Rattle.matrix_group.proofs.FamilyLaws.{family_homomorphism, family_linear, family_variable, family_position, family_polynomial, family_in_variables, family_form, family_substitute, family_unique, family_fixed}
 use Rattle.matrix_group.proofs.LinearForms.{variable_polynomial, variable_in_variables, variable_form, linear_form_polynomial, linear_form_in_variables, linear_form_form, linear_form_agree, linear_form_zero, linear_form_plus, linear_form_act, linear_form_unit, image_inside, image_outside, image_has}
 

@@ -1,21 +1,9 @@
 -- Steps of the computation of an image: cells of a matrix, and variables and linear forms as lists of terms.
-use Rattle.std.proofs.Common.{◌≡◌, ℕ, zero, suc, ◌+◌, ◌*◌, ◌<◌, ◌≤◌, List, [], ◌∷◌, ◌++◌, length, get_or, replicate, slice_set, refl, sym, ap, ap₂, subst, ◌∙◌, arith}
-use Rattle.std.proofs.lemmas.List.{map-append, get_or-take, get_or-drop, get_or_default}
-use Rattle.alg_core.specs.Fields.{FieldOn, Has, Scalar, scalars, scalar, scalar_one}
+use Rattle.matrix_group.proofs.Common.{◌≡◌, ℕ, zero, suc, ◌+◌, ◌*◌, ◌<◌, ◌≤◌, List, [], ◌∷◌, ◌++◌, length, get_or, sym, ap, ap₂, subst, ◌∙◌, arith, map-append, get_or-take, get_or-drop, get_or_default, FieldOn, Has, Scalar, scalars, scalar, mono, key, key_same, vectors, vec, plus, Term, entries, variable, single_vector, variable_vector, Matrix, cut_at, IsSquare, linear_form, mul-le-mul}
 use Rattle.alg_core.specs.FreeModules.{single}
-use Rattle.alg_core.specs.Monomials.{mono, mono_ext, exponent}
-use Rattle.alg_core.specs.Keys.{key, key_same}
-use Rattle.alg_core.specs.Vectors.{vectors, vec, plus}
-use Rattle.alg_core.specs.declared.term.Term.{Term}
-use Rattle.alg_core.specs.Spaces.{entry, entries}
+use Rattle.alg_core.specs.Spaces.{entry}
 use Rattle.alg_core.proofs.VectorLaws.{vec_append, vec_nothing, vec_single}
-use Rattle.poly_module.specs.MonomialVariables.{variable, after_zeros}
-use Rattle.poly_module.specs.Polynomials.{single_vector}
-use Rattle.poly_module.specs.Substitutions.{variable_vector}
-use Rattle.lin_algebra.specs.declared.matrix.Matrix.{Matrix}
 use Rattle.lin_algebra.specs.Matrices.{entries as cells_of}
-use Rattle.lin_algebra.proofs.CutLaws.{cut_at}
-use Rattle.matrix_group.specs.Actions.{IsSquare, linear_form}
 
 -- the key of a variable
 pub key_variable : (a b : List ℕ) (i : ℕ) → a ≡ b → mono b ≡ variable i → key (0, a) ≡ (0, variable i)
@@ -24,12 +12,7 @@ key_variable a b i e is = ap (λ m. (0, m)) (ap mono e ∙ is)
 
 -- the cell of a square matrix, as it is read from the list of cells
 pub cell_inside : (n i j : ℕ) → i < n → j < n → i * n + j < n * n
-cell_inside n i j h l = let r : suc i * n ≤ n * n = mul_mono (suc i) n n (omega arith) in omega arith
-  where
-    mul_mono : (a b p : ℕ) → a ≤ b → a * p ≤ b * p
-    mul_mono zero b p h = omega arith
-    mul_mono (suc a) zero p h = absurd (omega arith)
-    mul_mono (suc a) (suc b) p h = let r = mul_mono a b p (omega arith) in omega arith
+cell_inside n i j h l = let same : n ≤ n = omega arith in let r : suc i * n ≤ n * n = mul-le-mul h same in omega arith
 
 module _ {E : Type 0} (k : FieldOn E) (m : Matrix E) (square : IsSquare k m.rows m) where
   pub cells_many : length m.cells.items ≡ m.rows * m.rows

@@ -1,19 +1,8 @@
 -- Matrices of n rows and n columns as the lists of their cells: what stands where, and the laws of the product.
-use Rattle.std.proofs.Common.{◌≡◌, ℕ, zero, suc, ◌*◌, ◌<◌, List, [], ◌∷◌, ◌++◌, length, take, drop, get_or, All, sym, ap, ap₂, ◌∙◌, refl, arith, take-append-drop}
-use Rattle.std.specs.List.{flat_map, AllByRecursion as Each}
-use Rattle.std.proofs.lemmas.List.{length-take-le, length-drop, ext_get_or}
-use Rattle.std.proofs.lemmas.List.Elements.{All-take, All-drop, All-from_recursion}
-use Rattle.alg_core.specs.Rings.{Ring}
-use Rattle.alg_core.specs.Fields.{FieldOn, Has, Scalar, scalars, scalar, scalar_value, scalar_of_value}
-use Rattle.lin_algebra.specs.declared.matrix.Matrix.{Matrix}
-use Rattle.lin_algebra.specs.Vectors.{dot, unit, vector, IsRow}
-use Rattle.lin_algebra.specs.Matrices.{cut, entries, product}
-use Rattle.lin_algebra.proofs.DotLaws.{dot_same, dot_comm, dot_zero, dot_add, dot_act, dot_unit, unit_comm}
+use Rattle.matrix_group.proofs.Common.{◌≡◌, ℕ, zero, suc, ◌*◌, ◌<◌, List, [], ◌∷◌, ◌++◌, length, take, drop, get_or, All, sym, ap, ap₂, ◌∙◌, refl, arith, take-append-drop, flat_map, Each, length-take-le, length-drop, ext_get_or, All-take, All-drop, All-from_recursion, Ring, FieldOn, Has, Scalar, scalars, scalar, scalar_value, scalar_of_value, Matrix, dot, unit, vector, IsRow, cut, dot_same, dot_comm, dot_zero, dot_add, dot_act, dot_unit, unit_comm, listing, listing_same, length_listing, get_or-listing, length_cut, cut_flat, length_flat, IsSquare, entry, made, identity, times, IsCells}
+use Rattle.lin_algebra.specs.Matrices.{entries, product}
 use Rattle.lin_algebra.proofs.EachLaws.{Each_append}
 use Rattle.lin_algebra.proofs.KernelOf.{Each_listing}
-use Rattle.lin_algebra.proofs.CutLaws.{listing, listing_same, length_listing, get_or-listing, length_cut, cut_flat, length_flat}
-use Rattle.matrix_group.specs.Actions.{IsSquare}
-use Rattle.matrix_group.specs.Groups.{entry, made, identity, times, IsCells}
 
 -- two finite sums are exchanged
 pub dot_swap : {K : Type 0} (R : Ring K) (n m : ℕ) (u : ℕ → K) (b : ℕ → ℕ → K) (w : ℕ → K) → dot R m (λ l. dot R n u (λ p. b p l)) w ≡ dot R n u (λ p. dot R m (b p) w)

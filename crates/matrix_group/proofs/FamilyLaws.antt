@@ -1,26 +1,9 @@
 -- The value of a polynomial where each variable has a value: the one homomorphism with these values.
-use Rattle.std.specs.Prelude.{◌≡◌, ℕ, zero, suc, ◌+◌, ◌<◌, ◌≤◌, List, [], ◌∷◌, length, replicate}
-use mathlib.Core.Path.{sym, ap, ap₂, ◌∙◌, refl, subst}
-use native.Mathlib.Decide.{ℕ_discrete, dec_le}
-use native.Mathlib.Omega.{arith}
-use Rattle.alg_core.specs.Rings.{Ring, Linear, Homomorphism, Multiplicative}
+use Rattle.matrix_group.proofs.Common.{◌≡◌, ℕ, zero, suc, ◌+◌, ◌<◌, ◌≤◌, List, [], ◌∷◌, length, replicate, sym, ap, ap₂, ◌∙◌, refl, subst, ℕ_discrete, dec_le, arith, Ring, Linear, Homomorphism, Multiplicative, FieldOn, scalars, Mon, monomials, exponent, added, exponent_added, exponent_mul, exponent_mono, exponent_one, Key, key_same, keys, Vect, vectors, weight, variable, after_zeros, polynomials, polynomial_algebra, single_vector, one_vector, product, vector_ring, vector_algebra, value_single, value_homomorphism, power, power_add, monomial_value, substitute, substitute_single, variable_vector, position_vector, substitution_unique, variables_tell, substitute_linear, product_polynomial, product_in_variables, length_one, IsForm, OfDegree, of_degree, form_one, form_product, form_power, total, Supp, IsPolynomial, InVariables, supp_single, linear_supp, linear_unique_supp, power_product, family_value}
+use Rattle.poly_module.specs.Products.{one_vector_single, ring_product, ring_one}
+use Rattle.poly_module.specs.Substitutions.{image}
 use Rattle.alg_core.specs.RingLaws as rings
 use Rattle.alg_core.specs.ModuleLaws as modules
-use Rattle.alg_core.specs.Fields.{FieldOn, scalars}
-use Rattle.alg_core.specs.Monomials.{Mon, monomials, exponent, added, exponent_added, exponent_mul, exponent_mono, exponent_one}
-use Rattle.alg_core.specs.Keys.{Key, key_same, keys}
-use Rattle.alg_core.specs.Vectors.{Vect, vectors}
-use Rattle.alg_core.specs.SpaceGrading.{weight}
-use Rattle.poly_module.specs.MonomialVariables.{variable, after_zeros}
-use Rattle.poly_module.specs.Polynomials.{polynomials, polynomial_algebra, single_vector, one_vector, product, vector_ring, vector_algebra}
-use Rattle.poly_module.specs.Products.{one_vector_single, ring_product, ring_one}
-use Rattle.poly_module.specs.Values.{value_single, value_homomorphism}
-use Rattle.poly_module.specs.Substitutions.{power, power_add, image, monomial_value, substitute, substitute_single, variable_vector, position_vector, substitution_unique, variables_tell}
-use Rattle.poly_module.specs.Variables.{substitute_linear, product_polynomial, product_in_variables, length_one}
-use Rattle.poly_module.specs.Forms.{IsForm, OfDegree, of_degree, form_one, form_product, form_power}
-use Rattle.poly_module.specs.GreatestExponents.{total}
-use Rattle.poly_module.specs.Parts.{Supp, IsPolynomial, InVariables, supp_single, linear_supp, linear_unique_supp}
-use Rattle.matrix_group.specs.Families.{power_product, family_value}
 
 module _ {S : Type 0} (Y : Ring S) where
   power_product_added : (f : ℕ → S) (a b : List ℕ) → power_product Y f (added a b) ≡ Y.◌*◌ (power_product Y f a) (power_product Y f b)

@@ -1,12 +1,20 @@
 -- Lists in which no member stands twice, and the test whether a member is found.
-use Rattle.std.proofs.Common.{◌≡◌, ◌≢◌, ℕ, zero, suc, ◌+◌, ◌<◌, ◌≤◌, ◌⊎◌, inl, inr, Bool, true, false, cond, ◌||◌, List, [], ◌∷◌, ◌++◌, map, length, take, get_or, All, Contains, sym, ap, ◌∙◌, refl, subst, arith, true≢false}
-use Rattle.std.proofs.lemmas.List.{length-map, length-append, length_push, get_or_append_left}
-use Rattle.std.proofs.lemmas.List.Elements.{Contains-append_left, Contains-append_right, Contains-append_cases, Contains-get_or, Contains-push, Contains-push_cases, All-push}
+use Rattle.matrix_group.proofs.Common.{◌≡◌, ◌≢◌, ℕ, zero, suc, ◌+◌, ◌<◌, ◌≤◌, ◌⊎◌, inl, inr, Bool, true, false, cond, ◌||◌, List, [], ◌∷◌, ◌++◌, map, length, take, get_or, All, Contains, sym, ap, ◌∙◌, refl, subst, arith, true≢false, length-map, length-append, length_push, get_or_append_left, Contains-append_left, Contains-append_right, Contains-append_cases, Contains-get_or, Contains-push, Contains-push_cases, All-push, pointwise_decides, FieldOn, AreApart, is_yes, is_same, is_found, with_new, take-append-drop, drop, ⊎_elim}
+use native.Mathlib.Decide.{map_dec}
+use Rattle.alg_core.specs.Lists.{In, map_in}
+use Rattle.alg_core.proofs.Members.{from_map, in_contains, contains_in}
 use Rattle.std.proofs.lemmas.List.Kept.{AllPairs-cons}
 use Rattle.std.proofs.lemmas.List.Quantifiers.{all_pairs_push}
-use lib.Pointwise.{pointwise_decides}
-use Rattle.alg_core.specs.Fields.{FieldOn}
-use Rattle.matrix_group.specs.Groups.{AreApart, is_yes, is_same, is_found, with_new}
+
+dec_either : {A B : Type 0} → Dec A → Dec B → Dec (A ⊎ B)
+dec_either (yes a) d = yes (inl a)
+dec_either (no n) (yes b) = yes (inr b)
+dec_either (no n) (no m) = no (⊎_elim n m)
+
+-- whether a list has a member, where equality is decided
+pub in_or_not : {X : Type 0} (same : (x y : X) → Dec (x ≡ y)) (y : X) (l : List X) → Dec (In y l)
+in_or_not same y [] = no (λ i. i)
+in_or_not same y (x ∷ l) = dec_either (same x y) (in_or_not same y l)
 
 pub AreApart_nil : {X : Type 0} → AreApart {A = X} []
 AreApart_nil i j d l h = absurd (omega arith)
@@ -35,13 +43,7 @@ module _ {X : Type 0} where
   Contains_cases x xs y (suc i, inside, e) = inr (i, omega arith, e)
 
   pub Contains_take : (n : ℕ) (xs : List X) (y : X) → Contains (take n xs) y → Contains xs y
-  Contains_take zero xs y h = absurd (Contains_nil y h)
-  Contains_take (suc n) [] y h = h
-  Contains_take (suc n) (x ∷ xs) y h = go (Contains_cases x (take n xs) y h) (Contains_take n xs y)
-    where
-      go : (x ≡ y) ⊎ Contains (take n xs) y → (Contains (take n xs) y → Contains xs y) → Contains (x ∷ xs) y
-      go (inl e) rest = (0, omega arith, e)
-      go (inr h) rest = Contains_tail x xs y (rest h)
+  Contains_take n xs y h = subst (λ l. Contains l y) (take-append-drop n xs) (Contains-append_left (take n xs) (drop n xs) y h)
 
   -- the list before a member and the list after it
   pub Contains_split : (xs : List X) (y : X) → Contains xs y → (before : List X) × (after : List X) × (xs ≡ before ++ y ∷ after)
@@ -64,17 +66,10 @@ module _ {X : Type 0} where
       go (inr h) = in_rest (Contains_cases x after y h)
 
   pub Contains_map : {Y : Type 0} (f : X → Y) (xs : List X) (x : X) → Contains xs x → Contains (map f xs) (f x)
-  Contains_map f [] x h = absurd (Contains_nil x h)
-  Contains_map f (y ∷ xs) x h = go (Contains_map f xs x) (Contains_cases y xs x h)
-    where
-      go : (Contains xs x → Contains (map f xs) (f x)) → (y ≡ x) ⊎ Contains xs x → Contains (f y ∷ map f xs) (f x)
-      go rest (inl e) = (0, omega arith, ap f e)
-      go rest (inr h) = let r = rest h in let inside = r.1 in (suc r.0, omega arith, r.2)
+  Contains_map f xs x h = in_contains (f x) (map f xs) (map_in f x xs (contains_in x xs h))
 
   pub Contains_of_map : {Y : Type 0} (f : X → Y) (xs : List X) (y : Y) → Contains (map f xs) y → (x : X) × Contains xs x × (f x ≡ y)
-  Contains_of_map f [] y h = let none = h.1 in absurd (omega arith)
-  Contains_of_map f (x ∷ xs) y (zero, inside, e) = (x, Contains_head x xs, e)
-  Contains_of_map f (x ∷ xs) y (suc i, inside, e) = let r = Contains_of_map f xs y (i, omega arith, e) in (r.0, Contains_tail x xs r.0 r.1, r.2)
+  Contains_of_map f xs y h = let r = from_map f y xs (contains_in y (map f xs) h) in (r.0, in_contains r.0 xs r.1, r.2)
 
   pub AreApart_push : (xs : List X) (y : X) → AreApart xs → ¬ Contains xs y → AreApart (xs ++ y ∷ [])
   AreApart_push xs y a n = all_pairs_push (λ x z. x ≢ z) xs y a (λ i d l e. n (subst (Contains xs) e (Contains-get_or xs i d l)))
@@ -104,22 +99,9 @@ module _ {X : Type 0} where
   AreApart_same_length xs ys a b h g = let less = AreApart_length xs ys a h in let more = AreApart_length ys xs b g in omega arith
 
   module _ (same : (x y : X) → Dec (x ≡ y)) where
-    pub Contains_or_not : (xs : List X) (y : X) → Dec (Contains xs y)
-    Contains_or_not [] y = no (Contains_nil y)
-    Contains_or_not (x ∷ xs) y = go (same x y) (Contains_or_not xs y)
-      where
-        neither : ¬ (x ≡ y) → ¬ Contains xs y → (x ≡ y) ⊎ Contains xs y → ⊥
-        neither n m (inl e) = n e
-        neither n m (inr h) = m h
-
-        go : Dec (x ≡ y) → Dec (Contains xs y) → Dec (Contains (x ∷ xs) y)
-        go (yes e) d = yes (0, omega arith, e)
-        go (no n) (yes h) = yes (Contains_tail x xs y h)
-        go (no n) (no m) = no (λ h. neither n m (Contains_cases x xs y h))
-
     -- and if it is as long, it has each member of that list
     pub AreApart_onto : (xs ys : List X) → AreApart xs → ((x : X) → Contains xs x → Contains ys x) → length ys ≤ length xs → (y : X) → Contains ys y → Contains xs y
-    AreApart_onto xs ys a h le y g = go (Contains_or_not xs y)
+    AreApart_onto xs ys a h le y g = go (map_dec (in_contains y xs) (contains_in y xs) (in_or_not same y xs))
       where
         there : (x : X) → (y ≡ x) ⊎ Contains xs x → Contains ys x
         there x (inl e) = subst (Contains ys) e g

@@ -1,15 +1,5 @@
 -- The action of a group of matrices: products, the identity, and multiplication of the elements by one of them.
-use Rattle.std.proofs.Common.{◌≡◌, ℕ, ◌<◌, ◌≤◌, ◌⊎◌, inl, inr, List, map, get_or, sym, ap, ap₂, ◌∙◌, subst}
-use Rattle.std.specs.Prelude.{Contains, All}
-use Rattle.std.proofs.lemmas.Bool.{cases_lt}
-use Rattle.std.proofs.lemmas.List.Elements.{All-contains, Contains-get_or}
-use Rattle.alg_core.specs.Fields.{FieldOn, Scalar}
-use Rattle.alg_core.specs.Vectors.{Vect}
-use Rattle.poly_module.specs.Parts.{IsPolynomial}
-use Rattle.lin_algebra.specs.declared.matrix.Matrix.{Matrix}
-use Rattle.matrix_group.specs.Actions.{act, act_by, image, IsSquare, Invariant}
-use Rattle.matrix_group.specs.Families.{family_value}
-use Rattle.matrix_group.specs.Groups.{cells_of, entry, identity, times, IsCells, IsGroup, IsProduct, AreApart}
+use Rattle.matrix_group.proofs.Common.{◌≡◌, ℕ, ◌<◌, ◌≤◌, ◌⊎◌, inl, inr, List, map, get_or, sym, ap, ap₂, ◌∙◌, subst, Contains, All, cases_lt, All-contains, Contains-get_or, FieldOn, Scalar, Vect, IsPolynomial, Matrix, act, act_by, image, IsSquare, Invariant, family_value, cells_of, entry, identity, times, IsCells, IsGroup, IsProduct, AreApart}
 use Rattle.matrix_group.proofs.LinearForms.{linear_form_agree, image_inside, image_outside}
 use Rattle.matrix_group.proofs.ActionLaws.{act_act, act_identity}
 use Rattle.matrix_group.proofs.Cells.{entry_times, entry_identity, entries_of_matrix}

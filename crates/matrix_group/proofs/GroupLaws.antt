@@ -1,13 +1,6 @@
 -- The finite products of invertible matrices are a group, and multiplication by one of its elements.
-use Rattle.std.proofs.Common.{◌≡◌, ℕ, List, get_or, All, Contains, sym, ap, ◌∙◌, refl, subst}
-use Rattle.std.proofs.lemmas.List.Elements.{All-contains, All-map, Contains-get_or}
-use Rattle.alg_core.specs.Fields.{FieldOn, Scalar, scalars}
-use Rattle.lin_algebra.specs.declared.matrix.Matrix.{Matrix}
-use Rattle.lin_algebra.specs.Vectors.{unit}
-use Rattle.lin_algebra.specs.Matrices.{entries, product, HasInverse, IsInverse}
-use Rattle.lin_algebra.proofs.DotLaws.{dot_same}
-use Rattle.matrix_group.specs.Actions.{IsSquare}
-use Rattle.matrix_group.specs.Groups.{cells_of, entry, made, identity, times, IsCells, IsNonsingular, IsProduct, AreElements, IsGroup}
+use Rattle.matrix_group.proofs.Common.{◌≡◌, ℕ, List, get_or, All, Contains, sym, ap, ◌∙◌, refl, subst, All-contains, All-map, Contains-get_or, FieldOn, scalars, Matrix, unit, HasInverse, IsInverse, dot_same, IsSquare, cells_of, entry, made, identity, times, IsCells, IsNonsingular, IsProduct, AreElements, IsGroup}
+use Rattle.lin_algebra.specs.Matrices.{entries, product}
 use Rattle.matrix_group.proofs.Cells.{cells_made, entry_made, made_same, cells_of_matrix, entries_of_matrix, identity_cells, times_cells, times_assoc, identity_times, times_identity}
 use Rattle.matrix_group.proofs.Found.{cells_or_not, AreApart_reached}
 use Rattle.matrix_group.proofs.Products.{IsProduct_identity, IsProduct_times, IsProduct_generator, IsProduct_cells, products_induction}

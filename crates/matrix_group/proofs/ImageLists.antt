@@ -1,28 +1,13 @@
 -- The lists of the terms of the images of the variables, and the value at them.
-use Rattle.std.proofs.Common.{◌≡◌, ℕ, zero, suc, ◌+◌, ◌*◌, ◌<◌, ◌≤◌, ◌⊎◌, inl, inr, List, [], ◌∷◌, ◌++◌, map, length, get_or, refl, sym, ap, subst, ◌∙◌, arith}
-use Rattle.std.specs.Prelude.{All}
-use Rattle.std.proofs.lemmas.Bool.{cases_lt}
-use Rattle.std.proofs.lemmas.List.{get_or_append_left, get_or_push, length-append}
-use Rattle.alg_core.specs.Fields.{Has}
-use Rattle.alg_core.specs.Keys.{Key, key}
-use Rattle.alg_core.specs.Vectors.{Entry, vec}
-use Rattle.alg_core.specs.declared.term.Term.{Term}
-use Rattle.alg_core.specs.Spaces.{SpaceOver, entries, Fits}
-use Rattle.poly_module.specs.MonomialVariables.{variable, after_zeros}
-use Rattle.poly_module.specs.Polynomials.{vector_ring}
-use Rattle.poly_module.specs.Parts.{Supp, supp_single}
-use Rattle.poly_module.specs.Substitutions.{image as image_of, variable_vector, substitute}
-use Rattle.poly_module.specs.GreatestExponents.{total, greatest, peak, highest}
+use Rattle.matrix_group.proofs.Common.{◌≡◌, ℕ, zero, suc, ◌+◌, ◌*◌, ◌<◌, ◌≤◌, ◌⊎◌, inl, inr, List, [], ◌∷◌, ◌++◌, map, length, get_or, refl, sym, ap, subst, ◌∙◌, arith, All, cases_lt, get_or_append_left, get_or_push, length-append, Has, Key, key, Entry, vec, Term, SpaceOver, entries, Fits, variable, after_zeros, vector_ring, Supp, supp_single, image_of, variable_vector, substitute, total, greatest, peak, highest, Matrix, image, act_by, mul-le-mul}
 use Rattle.poly_module.specs.PowerTables.{AllAt}
 use Rattle.poly_module.specs.SpaceVectors.{vectors_of, ArePolys, IsPolyOf}
 use Rattle.poly_module.proofs.ExponentBounds.{Bounded, greatest_mono, fits_keys}
 use Rattle.poly_module.proofs.Factors.{fits_terms}
 use Rattle.poly_module.proofs.FittingKeys.{vec_in_variables}
-use Rattle.lin_algebra.specs.declared.matrix.Matrix.{Matrix}
 use Rattle.lin_algebra.specs.Matrices.{entries as cells_of}
-use Rattle.matrix_group.specs.Actions.{image, act_by}
 use Rattle.matrix_group.proofs.LinearForms.{linear_form_supp, image_has}
-use Rattle.matrix_group.proofs.ActionLaws.{image_polynomial, act_substitute}
+use Rattle.matrix_group.proofs.ActionLaws.{act_substitute}
 
 -- the exponents of a variable are at most 1
 variable_bounded : (i : ℕ) → Bounded 1 (0, variable i)
@@ -32,11 +17,6 @@ variable_bounded i = (refl, let e = greatest_mono (after_zeros i (1 ∷ [])) in 
     once : (i : ℕ) → greatest (after_zeros i (1 ∷ [])) ≤ 1
     once zero = omega arith
     once (suc i) = let r = once i in omega arith
-
-small_product : (t h cap : ℕ) → t ≤ cap → h ≤ 1 → t * h ≤ cap
-small_product t zero cap le b = omega arith
-small_product t (suc zero) cap le b = omega arith
-small_product t (suc (suc h)) cap le b = absurd (omega arith)
 
 -- one more at the end
 all_at_push : {A : Type 0} (P : ℕ → A → Type 0) (l : List A) (x : A) → AllAt P l → P (length l) x → AllAt P (l ++ x ∷ [])
@@ -109,7 +89,9 @@ module _ {E : Type 0} (S : SpaceOver E) (m : Matrix E) where
       omega arith
 
   pub images_small : (cap : ℕ) (es : List (Entry E)) (images : List Terms) → AreImages images → All (λ e. total e.0.1 ≤ cap) es → All (λ e. total e.0.1 * highest (map (entries (λ a. a)) images) ≤ cap) es
-  images_small cap es images are few i d w = small_product (total (get_or es i d).0.1) (highest (map (entries (λ a. a)) images)) cap (few i d w) (highest_bounded images (image_keys (Bounded 1) image_bounded images are))
+  images_small cap es images are few i d w =
+      let least : total (get_or es i d).0.1 * highest (map (entries (λ a. a)) images) ≤ cap * 1 = mul-le-mul (few i d w) (highest_bounded images (image_keys (Bounded 1) image_bounded images are)) in
+      omega arith
 
   -- the value at the images is the image
   values_image : (images : List Terms) (i : ℕ) → i < length images → (d : Terms) → image_of (vector_ring S.field) (vectors_of S (λ a. a) images) i ≡ vec S.field (listed (get_or images i d))

@@ -1,16 +1,6 @@
 -- A set of matrices, seen as the list of their cells.
-use Rattle.std.proofs.Common.{◌≡◌, ℕ, Bool, true, false, ◌&&◌, ◌||◌, nat_eq, List, [], ◌∷◌, ◌++◌, All, sym, ap, ap₂, ◌∙◌, refl, subst, arith, if◌then◌else◌}
-use Rattle.std.specs.List.{list_any, AllByRecursion as Each}
-use Rattle.std.proofs.lemmas.List.{map-append}
-use Rattle.std.proofs.lemmas.List.Elements.{All-append, All-from_recursion, recursion_from_All}
+use Rattle.matrix_group.proofs.Common.{◌≡◌, ℕ, Bool, true, false, ◌&&◌, ◌||◌, nat_eq, List, [], ◌∷◌, ◌++◌, All, sym, ap, ap₂, ◌∙◌, refl, subst, arith, if◌then◌else◌, list_any, Each, map-append, All-append, All-from_recursion, recursion_from_All, pointwise, insert_key, FieldOn, Exact, Matrix, IsSquare, is_yes, is_same, is_found, with_new, cells_of, are_same}
 use Rattle.std.proofs.lemmas.Bool.Decides.{nat_tests}
-use lib.Pointwise.{pointwise}
-use Rattle.indexmap.specs.IndexSet.{insert_key}
-use Rattle.alg_core.specs.Fields.{FieldOn, Exact}
-use Rattle.lin_algebra.specs.declared.matrix.Matrix.{Matrix}
-use Rattle.matrix_group.specs.Actions.{IsSquare}
-use Rattle.matrix_group.specs.Groups.{is_yes, is_same, is_found, with_new, cells_of}
-use Rattle.matrix_group.specs.Insertions.{are_same}
 
 same_numbers : (a b : ℕ) → a ≡ b → nat_eq a b ≡ true
 same_numbers a b e = grind (arith, nat_tests)

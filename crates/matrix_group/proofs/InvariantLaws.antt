@@ -1,11 +1,5 @@
 -- The invariants are closed under sums, multiples and products.
-use Rattle.std.specs.Prelude.{List}
-use mathlib.Core.Path.{ap, ap₂, ◌∙◌}
-use Rattle.alg_core.specs.Fields.{FieldOn}
-use Rattle.alg_core.specs.Vectors.{Vect, plus, zero_vector, scale}
-use Rattle.poly_module.specs.Polynomials.{product, one_vector}
-use Rattle.lin_algebra.specs.declared.matrix.Matrix.{Matrix}
-use Rattle.matrix_group.specs.Actions.{Invariant}
+use Rattle.matrix_group.proofs.Common.{List, ap, ap₂, ◌∙◌, FieldOn, Vect, plus, zero_vector, scale, product, one_vector, Matrix, Invariant}
 use Rattle.matrix_group.proofs.ActionLaws.{act_plus, act_zero, act_scale, act_product, act_one}
 
 module _ {E : Type 0} (k : FieldOn E) (gens : List (Matrix E)) where

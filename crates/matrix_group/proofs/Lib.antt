@@ -1,3 +1,4 @@
+pub mod Common
 pub mod Cells
 pub mod Found
 pub mod Products
@@ -13,4 +14,3 @@ pub mod InvariantLaws
 pub mod GroupActions
 pub mod ActionSteps
 pub mod ImageLists
-pub mod FixedLaws

@@ -1,25 +1,8 @@
 -- Linear forms by their coefficients.
-use Rattle.std.specs.Prelude.{◌≡◌, ℕ, zero, suc, ◌<◌, ◌≤◌, [], ◌∷◌, length, replicate, if◌then◌else◌}
-use Rattle.std.proofs.Common.{◌⊎◌, inl, inr}
-use Rattle.std.proofs.lemmas.Bool.{cases_lt}
-use mathlib.Core.Path.{sym, ap, ap₂, ◌∙◌, refl, subst}
-use native.Mathlib.Decide.{ℕ_discrete}
-use native.Mathlib.Omega.{arith}
-use Rattle.alg_core.specs.ModuleLaws as modules
-use Rattle.alg_core.specs.Fields.{FieldOn, Scalar, scalars}
+use Rattle.matrix_group.proofs.Common.{◌≡◌, ℕ, zero, suc, ◌<◌, ◌≤◌, [], ◌∷◌, length, replicate, if◌then◌else◌, ◌⊎◌, inl, inr, cases_lt, sym, ap, ap₂, ◌∙◌, refl, subst, ℕ_discrete, arith, FieldOn, Scalar, scalars, Key, Vect, vectors, plus, zero_vector, weight, weight_ext, exponent_mono, exponent, variable, after_zeros, variable_vector, length_mon, IsForm, OfDegree, Supp, IsPolynomial, InVariables, supp_zero, supp_plus, supp_act, supp_single, unit, linear_form, image}
 use Rattle.alg_core.proofs.NumberTests.{is_below, not_below}
 use Rattle.alg_core.specs.CanonicalLists.{indicator_no, indicator_yes}
-use Rattle.alg_core.specs.Keys.{Key}
-use Rattle.alg_core.specs.Vectors.{Vect, vectors, plus, zero_vector}
-use Rattle.alg_core.specs.SpaceGrading.{weight, weight_ext}
-use Rattle.alg_core.specs.Monomials.{exponent_mono, exponent}
-use Rattle.poly_module.specs.MonomialVariables.{variable, after_zeros}
-use Rattle.poly_module.specs.Substitutions.{variable_vector}
-use Rattle.poly_module.specs.Variables.{length_mon}
-use Rattle.poly_module.specs.Forms.{IsForm, OfDegree}
-use Rattle.poly_module.specs.Parts.{Supp, IsPolynomial, InVariables, supp_zero, supp_plus, supp_act, supp_single}
-use Rattle.lin_algebra.specs.Vectors.{unit}
-use Rattle.matrix_group.specs.Actions.{linear_form, image}
+use Rattle.alg_core.specs.ModuleLaws as modules
 
 -- a variable is in the variables up to it, and has degree 1
 pub length_variable : (i w : ℕ) → i < w → length (variable i).0 ≤ w
@@ -32,7 +15,7 @@ length_variable i w h = length_mon w (variable i) (λ j l. exponent_mono (after_
     past (suc i) zero l = absurd (omega arith)
     past (suc i) (suc j) l = past i j (omega arith)
 
-weight_variable : (i w : ℕ) → i < w → weight (replicate w 1) 0 (variable i).0 ≡ 1
+pub weight_variable : (i w : ℕ) → i < w → weight (replicate w 1) 0 (variable i).0 ≡ 1
 unfolding variable after_zeros weight
 weight_variable i w h = weight_ext (replicate w 1) 0 _ (after_zeros i (1 ∷ [])) (exponent_mono (after_zeros i (1 ∷ []))) ∙ go i w 0 h
   where

@@ -1,8 +1,5 @@
 -- The order of a group: there is one, and it is above each number that is passed.
-use Rattle.std.proofs.Common.{◌≡◌, ℕ, ◌+◌, ◌<◌, List, length, take, sym, ap, ◌∙◌, refl, arith}
-use Rattle.std.proofs.lemmas.List.{length-take-le}
-use Rattle.alg_core.specs.Fields.{FieldOn}
-use Rattle.matrix_group.specs.Groups.{AreElements, IsOrder, IsOverOrder, walk, IsWalk}
+use Rattle.matrix_group.proofs.Common.{◌≡◌, ℕ, ◌+◌, ◌<◌, List, length, take, sym, ap, ◌∙◌, refl, arith, length-take-le, FieldOn, AreElements, IsOrder, IsOverOrder, walk, IsWalk}
 use Rattle.matrix_group.proofs.Walks.{walk_elements}
 use Rattle.matrix_group.proofs.Found.{Contains_take, AreApart_take, AreApart_length, AreApart_same_length}
 

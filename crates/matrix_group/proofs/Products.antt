@@ -1,9 +1,5 @@
 -- The finite products of generators.
-use Rattle.std.proofs.Common.{◌≡◌, ℕ, List, [], ◌∷◌, ◌++◌, fold, All, Contains, sym, ap, ◌∙◌, refl, subst}
-use Rattle.std.proofs.lemmas.List.Sums.{fold-append}
-use Rattle.std.proofs.lemmas.List.Elements.{All-nil, All-head, All-tail, All-push, All-append}
-use Rattle.alg_core.specs.Fields.{FieldOn}
-use Rattle.matrix_group.specs.Groups.{identity, times, product_of, IsCells, IsProduct}
+use Rattle.matrix_group.proofs.Common.{◌≡◌, ℕ, List, [], ◌∷◌, ◌++◌, fold, All, Contains, sym, ap, ◌∙◌, refl, subst, fold-append, All-nil, All-head, All-tail, All-push, All-append, FieldOn, identity, times, product_of, IsCells, IsProduct}
 use Rattle.matrix_group.proofs.Cells.{identity_cells, times_cells, times_assoc, identity_times, times_identity}
 
 module _ {E : Type 0} (k : FieldOn E) (n : ℕ) where

@@ -1,17 +1,8 @@
 -- One turn of the walk in the code: an element of the set is multiplied by each generator.
-use Rattle.std.proofs.Common.{◌≡◌, ℕ, zero, suc, ◌+◌, ◌<◌, ◌≤◌, true, false, Bool, List, [], ◌∷◌, ◌++◌, length, get_or, slice_get, Some, take, All, sym, ap, ap₂, ◌∙◌, refl, subst, arith, Ok, Err, Result, if◌then◌else◌}
-use Rattle.std.specs.List.{list_any}
+use Rattle.matrix_group.proofs.Common.{◌≡◌, ℕ, suc, ◌+◌, ◌<◌, ◌≤◌, true, false, Bool, List, [], ◌∷◌, ◌++◌, length, get_or, slice_get, Some, take, All, sym, ap, ap₂, ◌∙◌, refl, subst, arith, Ok, Err, Result, if◌then◌else◌, list_any, length-map, length-append, get_or-map, take_all, insert_key, FieldOn, Exact, scalars, Matrix, unit, IsMatrix, IsSquare, size, cells_of, identity, times, with_new, IsOverOrder, walk, IsWalk, are_same, All-cons, All-nil}
 use Rattle.std.specs.Result.{IsErrAnd}
-use Rattle.std.proofs.lemmas.List.{length-map, length-append, get_or-map, take_all}
 use Rattle.std.proofs.lemmas.Option.{get_or_from_slice_get}
-use Rattle.indexmap.specs.IndexSet.{insert_key}
-use Rattle.alg_core.specs.Fields.{FieldOn, Exact, scalars}
-use Rattle.lin_algebra.specs.declared.matrix.Matrix.{Matrix}
-use Rattle.lin_algebra.specs.Vectors.{unit}
-use Rattle.lin_algebra.specs.Matrices.{IsMatrix, entries, product}
-use Rattle.matrix_group.specs.Actions.{IsSquare}
-use Rattle.matrix_group.specs.Groups.{size, cells_of, identity, times, with_new, IsOverOrder, walk, IsWalk}
-use Rattle.matrix_group.specs.Insertions.{are_same}
+use Rattle.lin_algebra.specs.Matrices.{entries, product}
 use Rattle.matrix_group.proofs.Cells.{times_is, identity_is}
 use Rattle.matrix_group.proofs.Insertions.{cells_put, square_put}
 use Rattle.matrix_group.proofs.Walks.{with_each, with_each_more, with_each_start, IsStage, stage_start, stage_part, stage_walk, stage_at, stage_over_order, walk_stage}
@@ -21,21 +12,13 @@ pub error_same : {X F : Type 0} (r : Result X F) (e y : F) → IsErrAnd r (λ x.
 error_same (Ok x) e y h q = absurd h
 error_same (Err x) e y h q = sym h ∙ cc
 
--- a set is longer by one at the most
-longer_by_one : {A : Type 0} (t : A → A → Bool) (xs : List A) (x : A) → length (insert_key t xs x) ≤ length xs + 1
-longer_by_one t xs x = go (list_any (t x) xs)
+-- a set is no shorter than it was, and longer by one at the most
+put_length : {A : Type 0} (t : A → A → Bool) (xs : List A) (x : A) → (length xs ≤ length (insert_key t xs x)) × (length (insert_key t xs x) ≤ length xs + 1)
+put_length t xs x = go (list_any (t x) xs)
   where
-    go : (b : Bool) → length (if b then xs else (xs ++ x ∷ [])) ≤ length xs + 1
-    go true = omega arith
-    go false = let e = length-append xs (x ∷ []) in omega (arith, e)
-
--- and no shorter
-not_shorter : {A : Type 0} (t : A → A → Bool) (xs : List A) (x : A) → length xs ≤ length (insert_key t xs x)
-not_shorter t xs x = go (list_any (t x) xs)
-  where
-    go : (b : Bool) → length xs ≤ length (if b then xs else (xs ++ x ∷ []))
-    go true = omega arith
-    go false = let e = length-append xs (x ∷ []) in omega (arith, e)
+    go : (b : Bool) → (length xs ≤ length (if b then xs else (xs ++ x ∷ []))) × (length (if b then xs else (xs ++ x ∷ [])) ≤ length xs + 1)
+    go true = (omega arith, omega arith)
+    go false = let e = length-append xs (x ∷ []) in (omega (arith, e), omega (arith, e))
 
 -- the size is that of the first generator
 size_first : {E : Type 0} (ms : List (Matrix E)) (d : Matrix E) → 0 < length ms → size ms ≡ (get_or ms 0 d).rows
@@ -104,7 +87,7 @@ module _ {E : Type 0} (k : FieldOn E) (n : ℕ) (gens : List (Matrix E)) (max : 
       square = square_put k eq exact n p keys new square_p turn.square put;
       early = turn.early;
       is = put_is new put;
-      below = (let b = turn.below in let longer = not_shorter (are_same eq) keys p in let same = ap length put in omega (arith, b, longer, same));
+      below = (let b = turn.below in let longer = (put_length (are_same eq) keys p).0 in let same = ap length put in omega (arith, b, longer, same));
       within = within;
     }
 
@@ -112,7 +95,7 @@ module _ {E : Type 0} (k : FieldOn E) (n : ℕ) (gens : List (Matrix E)) (max : 
     pub turn_over : max < length (insert_key (are_same eq) keys p) → IsOverOrder k n (cells_of gens) max
     turn_over over =
         let new = insert_key (are_same eq) keys p in
-        let few = longer_by_one (are_same eq) keys p in
+        let few = (put_length (are_same eq) keys p).1 in
         let within = turn.within in
         let long : length new ≡ max + 1 = omega (arith, few, within, over) in
         let is = put_is new refl in
@@ -135,11 +118,7 @@ module _ {E : Type 0} (k : FieldOn E) (n : ℕ) (gens : List (Matrix E)) (max : 
       let same : n ≡ (get_or gens 0 first).rows = is_size ∙ size_first gens first some in
       let square : IsSquare k n m = record { matrix = matrix; rows = rows ∙ sym same; cols = cols ∙ sym same } in
       let is : new ≡ m ∷ [] = put ∙ ap (λ l. insert_key (are_same eq) l m) empty in
-      (ap cells_of is ∙ ap (λ g. g ∷ []) (identity_is k n m square (λ i l. one i (omega (arith, same, l)))), subst (All (IsSquare k n)) (sym is) (alone m square))
-    where
-      alone : (m : Matrix E) → IsSquare k n m → All (IsSquare k n) (m ∷ [])
-      alone m square zero d h = square
-      alone m square (suc j) d h = absurd (omega arith)
+      (ap cells_of is ∙ ap (λ g. g ∷ []) (identity_is k n m square (λ i l. one i (omega (arith, same, l)))), subst (All (IsSquare k n)) (sym is) (All-cons (IsSquare k n) m [] square (All-nil (IsSquare k n))))
 
   pub first_over : (eq : E → E → Bool) (m : Matrix E) (old : List (Matrix E)) → old ≡ [] → max < length (insert_key (are_same eq) old m) → IsOverOrder k n (cells_of gens) max
   first_over eq m old empty over =

@@ -1,11 +1,5 @@
 -- The walk that finds the finite products: what holds of each stage, and what is found when it is over.
-use Rattle.std.proofs.Common.{◌≡◌, ℕ, zero, suc, ◌+◌, ◌<◌, ◌≤◌, ◌⊎◌, inl, inr, List, [], ◌∷◌, length, get_or, take, fold, All, Contains, sym, ap, ◌∙◌, refl, subst, arith}
-use Rattle.std.proofs.lemmas.Bool.{cases_lt}
-use Rattle.std.proofs.lemmas.List.{get_or_default, get_or_past, take_all}
-use Rattle.std.proofs.lemmas.List.Sums.{fold_more}
-use Rattle.std.proofs.lemmas.List.Elements.{All-head, All-tail, All-take, All-contains_itself, Contains-get_or}
-use Rattle.alg_core.specs.Fields.{FieldOn}
-use Rattle.matrix_group.specs.Groups.{AreApart, with_new, identity, times, IsCells, IsProduct, AreElements, IsOverOrder, with_products, walk, IsWalk}
+use Rattle.matrix_group.proofs.Common.{◌≡◌, ℕ, zero, suc, ◌+◌, ◌<◌, ◌≤◌, ◌⊎◌, inl, inr, List, [], ◌∷◌, length, get_or, take, fold, All, Contains, sym, ap, ◌∙◌, refl, subst, arith, cases_lt, get_or_default, get_or_past, take_all, fold_more, All-head, All-tail, All-take, All-contains_itself, Contains-get_or, FieldOn, AreApart, with_new, identity, times, IsCells, IsProduct, AreElements, IsOverOrder, with_products, walk, IsWalk, All-cons, All-nil}
 use Rattle.matrix_group.proofs.Cells.{identity_cells, times_cells}
 use Rattle.matrix_group.proofs.Found.{AreApart_nil, AreApart_cons, Contains_nil, Contains_cases, is_found_decides, with_new_found, with_new_apart, with_new_old, with_new_last, with_new_members, with_new_all, with_new_longer, with_new_start}
 use Rattle.matrix_group.proofs.Products.{IsProduct_identity, IsProduct_more, products_induction}
@@ -66,7 +60,7 @@ module _ {E : Type 0} (k : FieldOn E) (n : ℕ) where
     stage_start = record {
       apart = AreApart_cons (identity k n) [] (Contains_nil (identity k n)) AreApart_nil;
       products = λ g h. at g (Contains_cases (identity k n) [] g h);
-      cells = λ i d h. cells i d h;
+      cells = All-cons (IsCells k n) (identity k n) [] (identity_cells k n) (All-nil (IsCells k n));
       positive = omega arith;
       first = refl;
     }
@@ -74,10 +68,6 @@ module _ {E : Type 0} (k : FieldOn E) (n : ℕ) where
         at : (g : Cells) → (identity k n ≡ g) ⊎ Contains [] g → IsProduct k n gens g
         at g (inl e) = subst (IsProduct k n gens) e (IsProduct_identity k n gens)
         at g (inr h) = absurd (Contains_nil g h)
-
-        cells : (i : ℕ) (d : Cells) → i < 1 → IsCells k n (get_or (identity k n ∷ []) i d)
-        cells zero d h = identity_cells k n
-        cells (suc i) d h = absurd (omega arith)
 
     pub stage_new : (gs : List Cells) (g m : Cells) → IsStage gs → IsProduct k n gens g → Contains gens m → IsStage (with_new k gs (times k n g m))
     stage_new gs g m s p h = record {

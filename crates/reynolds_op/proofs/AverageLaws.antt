@@ -1,24 +1,10 @@
 -- The laws of the average over a group of matrices.
-use Rattle.std.proofs.Common.{◌≡◌, ◌↔◌, ◌≤◌, ℕ, List, [], ◌∷◌, length, map, replicate, All, sym, ap, ◌∙◌, subst}
-use Rattle.std.specs.Prelude.{Contains}
-use Rattle.std.proofs.lemmas.List.{length-map}
-use Rattle.alg_core.specs.Fields.{FieldOn, Has, scalars, scalar, scalar_one, scalar_mul}
-use Rattle.alg_core.specs.Vectors.{Vect, vectors, plus, zero_vector, scale}
-use Rattle.alg_core.proofs.VectorLaws.{scale_plus, scale_zero_vector}
-use Rattle.poly_module.specs.Polynomials.{product}
+use Rattle.reynolds_op.proofs.Common.{◌≡◌, ◌↔◌, ◌≤◌, ℕ, List, [], ◌∷◌, length, map, replicate, All, sym, ap, ◌∙◌, subst, Contains, length-map, FieldOn, Has, scalars, scalar, scalar_one, scalar_mul, Vect, vectors, plus, zero_vector, scale, scale_plus, scale_zero_vector, product, IsPolynomial, InVariables, supp_zero, supp_plus, IsForm, Matrix, act, IsSquare, Invariant, size, cells_of, entry, times, IsGroup, AreElements, AreApart, ones, sum_of, sum_over, average, reynolds, Averaging, IsAveraging, IsAverage, has_ones, act_times, fixed_by_cells, fixed_by_matrices, fixed_by_product, turned_apart, turned_in, in_turned}
 use Rattle.poly_module.specs.Products.{product_plus, product_zero, product_scale}
-use Rattle.poly_module.specs.Parts.{IsPolynomial, InVariables, supp_zero, supp_plus, supp_scale}
-use Rattle.poly_module.specs.Forms.{IsForm}
-use Rattle.lin_algebra.specs.declared.matrix.Matrix.{Matrix}
-use Rattle.matrix_group.specs.Actions.{act, IsSquare, Invariant}
-use Rattle.matrix_group.specs.Groups.{size, cells_of, entry, times, IsGroup, AreElements, AreApart}
+use Rattle.poly_module.specs.Parts.{supp_scale}
 use Rattle.matrix_group.proofs.ActionLaws.{act_plus, act_zero, act_scale, act_product, act_polynomial, act_in_variables, act_form}
 use Rattle.matrix_group.proofs.GroupLaws.{elements_generators, matrices_cells}
-use Rattle.alg_core.specs.Fields.{ones}
-use Rattle.reynolds_op.specs.Averages.{sum_of, sum_over, average, reynolds, Averaging, IsAveraging, IsAverage}
-use Rattle.alg_core.proofs.OnesLaws.{has_ones}
 use Rattle.reynolds_op.proofs.Sums.{sum_same, sum_plus, sum_through, sum_constant, sum_members, sum_map}
-use Rattle.matrix_group.proofs.GroupActions.{act_times, fixed_by_cells, fixed_by_matrices, fixed_by_product, turned_apart, turned_in, in_turned}
 
 module _ {E : Type 0} (k : FieldOn E) where
   scale_commutes : (c d : E) (u : Vect k) → scale k c (scale k d u) ≡ scale k d (scale k c u)

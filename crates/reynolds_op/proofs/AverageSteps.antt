@@ -1,16 +1,8 @@
 -- Steps of the computation of an average.
-use Rattle.std.proofs.Common.{◌≡◌, ℕ, ◌+◌, ◌<◌, ◌≤◌, List, [], ◌∷◌, ◌++◌, length, take, get_or, All, refl, sym, ap, ap₂, ◌∙◌, subst}
-use Rattle.std.proofs.lemmas.List.{take_more, map-append}
-use Rattle.alg_core.specs.Fields.{FieldOn}
-use Rattle.alg_core.specs.Vectors.{Vect, plus}
-use Rattle.alg_core.specs.Spaces.{SpaceOver}
-use Rattle.alg_core.proofs.VectorLaws.{plus_zero}
-use Rattle.lin_algebra.specs.declared.matrix.Matrix.{Matrix}
-use Rattle.matrix_group.specs.Actions.{IsSquare, ActsOn, act_by}
-use Rattle.matrix_group.specs.Groups.{size, cells_of}
-use Rattle.reynolds_op.specs.Averages.{Averaging, sum_over, ActTogether, AveragesOn}
+use Rattle.reynolds_op.proofs.Common.{◌≡◌, ℕ, ◌+◌, ◌<◌, ◌≤◌, List, [], ◌∷◌, ◌++◌, length, take, get_or, All, refl, sym, ap, ap₂, ◌∙◌, subst, map-append, FieldOn, Vect, plus, SpaceOver, plus_zero, Matrix, IsSquare, act_by, size, cells_of, Averaging, sum_over, ActTogether, AveragesOn, act_cells}
+use Rattle.std.proofs.lemmas.List.{take_more}
+use Rattle.matrix_group.specs.Actions.{ActsOn}
 use Rattle.reynolds_op.proofs.Sums.{sum_append}
-use Rattle.matrix_group.proofs.GroupActions.{act_cells}
 
 module _ {E : Type 0} (k : FieldOn E) where
   -- one image more

@@ -1,11 +1,5 @@
 -- Groups of matrices of the program.
-use Rattle.std.proofs.Common.{◌≡◌, ℕ, List, [], ◌∷◌, ◌++◌, All, sym, ap, ◌∙◌, subst, arith}
-use Rattle.alg_core.specs.Fields.{FieldOn}
-use Rattle.lin_algebra.specs.declared.matrix.Matrix.{Matrix}
-use Rattle.matrix_group.specs.Actions.{IsSquare}
-use Rattle.matrix_group.specs.Groups.{cells_of, size, identity, IsGroup}
-use Rattle.matrix_group.proofs.Found.{Contains_nil}
-use Rattle.reynolds_op.specs.Averages.{IsMatrixGroup}
+use Rattle.reynolds_op.proofs.Common.{◌≡◌, ℕ, List, [], ◌∷◌, ◌++◌, All, sym, ap, ◌∙◌, subst, arith, FieldOn, Matrix, IsSquare, cells_of, size, identity, IsGroup, Contains_nil, IsMatrixGroup}
 
 -- a list into which one member was put
 pub put_alone : {A : Type 0} (seen new old : List A) (x : A) → seen ≡ new → new ≡ old ++ x ∷ [] → old ≡ [] → seen ≡ x ∷ []

@@ -1,9 +1,5 @@
 -- A list without repeats, without one of its members.
-use Rattle.std.proofs.Common.{◌≡◌, ◌⊎◌, inl, inr, List, [], ◌∷◌, ◌++◌, sym, subst}
-use Rattle.std.specs.Prelude.{Contains}
-use Rattle.std.proofs.lemmas.List.Elements.{Contains-append_left, Contains-append_right, Contains-append_cases}
-use Rattle.matrix_group.specs.Groups.{AreApart}
-use Rattle.matrix_group.proofs.Found.{AreApart_head, AreApart_tail, AreApart_cons, Contains_head, Contains_tail, Contains_cases}
+use Rattle.reynolds_op.proofs.Common.{◌≡◌, ◌⊎◌, inl, inr, List, [], ◌∷◌, ◌++◌, sym, subst, Contains, Contains-append_left, Contains-append_right, Contains-append_cases, AreApart, AreApart_head, AreApart_tail, AreApart_cons, Contains_head, Contains_tail, Contains_cases}
 
 module _ {X : Type 0} where
   pub Contains_with : (before : List X) (x : X) (after : List X) (y : X) → Contains (before ++ after) y → Contains (before ++ x ∷ after) y

@@ -1,16 +1,7 @@
 -- Sums over lists: what functions that keep sums make of them, and that a sum over a list without repeats goes by its
 -- members.
-use Rattle.std.proofs.Common.{◌≡◌, ◌⊎◌, inl, inr, List, [], ◌∷◌, ◌++◌, length, map, refl, sym, ap, ap₂, ◌∙◌, subst}
-use Rattle.std.specs.Prelude.{Contains}
-use Rattle.alg_core.specs.Fields.{FieldOn, scalar_one, scalar_add}
-use Rattle.alg_core.specs.Vectors.{Vect, vectors, plus, zero_vector, scale}
-use Rattle.alg_core.proofs.VectorLaws.{plus_left_comm, plus_swap, zero_plus, plus_zero, plus_assoc, scale_zero}
-use Rattle.matrix_group.specs.Groups.{AreApart}
-use Rattle.matrix_group.proofs.Found.{AreApart_head, AreApart_tail, Contains_nil, Contains_head, Contains_tail, Contains_cases, Contains_split, Contains_without}
-use Rattle.alg_core.specs.Fields.{ones}
-use Rattle.reynolds_op.specs.Averages.{sum_of}
+use Rattle.reynolds_op.proofs.Common.{◌≡◌, ◌⊎◌, inl, inr, List, [], ◌∷◌, ◌++◌, length, map, refl, sym, ap, ap₂, ◌∙◌, subst, Contains, FieldOn, scalar_one, scalar_add, Vect, vectors, plus, zero_vector, scale, plus_left_comm, plus_swap, zero_plus, plus_zero, plus_assoc, scale_zero, AreApart, AreApart_head, AreApart_tail, Contains_nil, Contains_head, Contains_tail, Contains_cases, Contains_split, Contains_without, ones, sum_of, has_ones}
 use Rattle.reynolds_op.proofs.Members.{Contains_with, AreApart_without}
-use Rattle.alg_core.proofs.OnesLaws.{has_ones}
 
 module _ {E : Type 0} (k : FieldOn E) {A : Type 0} where
   pub sum_same : (f g : A → Vect k) (xs : List A) → ((x : A) → Contains xs x → f x ≡ g x) → sum_of k f xs ≡ sum_of k g xs

@@ -1,4 +1,4 @@
-use Rattle.std.proofs.Common.{arith}
+use Rattle.invariant_space.proofs.Common.{arith}
 use Rattle.invariant_space.proofs.BinomialLaws.{Counted-first, Counted-next, product-fits}
 use Rattle.invariant_space.proofs.count.monomial_count.Goals as goal
 

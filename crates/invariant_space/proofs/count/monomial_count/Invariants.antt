@@ -1,4 +1,4 @@
-use Rattle.std.proofs.Common.{◌≤◌}
+use Rattle.invariant_space.proofs.Common.{◌≤◌}
 use Rattle.invariant_space.proofs.BinomialLaws.{Counted}
 use Rattle.invariant_space.proofs.count.monomial_count.Given as goal
 

@@ -1,9 +1,4 @@
-use Rattle.std.proofs.Common.{◌<◌, ◌≤◌, ◌∙◌, length, arith}
-use Rattle.alg_core.specs.Fields.{scalars}
-use Rattle.alg_core.specs.SpaceOrder.{key_order}
-use Rattle.alg_core.specs.Spaces.{over}
-use Rattle.lin_algebra.specs.Vectors.{dot, vector}
-use Rattle.invariant_space.specs.Equations.{coordinates, Solves}
+use Rattle.invariant_space.proofs.Common.{◌<◌, ◌≤◌, ◌∙◌, length, arith, scalars, key_order, over, dot, vector, coordinates, Solves}
 use Rattle.invariant_space.proofs.EquationLaws.{pushed, solves_pushed, fixed_more, fixed_all}
 use Rattle.invariant_space.proofs.equations.add_equations.Goals as goal
 

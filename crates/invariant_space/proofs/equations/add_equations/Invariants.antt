@@ -1,14 +1,4 @@
-use Rattle.std.proofs.Common.{◌≡◌, ◌↔◌, ℕ, List, length}
-use Rattle.alg_core.specs.Keys.{Key}
-use Rattle.alg_core.specs.Lists.{In}
-use Rattle.alg_core.specs.Spaces.{over}
-use Rattle.alg_core.specs.SpaceOrder.{key_order}
-use Rattle.alg_core.specs.Vectors.{Vect}
-use Rattle.poly_module.specs.Parts.{Supp}
-use Rattle.lin_algebra.specs.Matrices.{IsMatrix}
-use Rattle.lin_algebra.specs.declared.matrix.Matrix.{Matrix}
-use Rattle.invariant_space.specs.Equations.{IsMonomialList, coordinates, Solves}
-use Rattle.invariant_space.specs.Images.{AreImages}
+use Rattle.invariant_space.proofs.Common.{◌≡◌, ◌↔◌, ℕ, List, length, Key, In, over, key_order, Vect, Supp, IsMatrix, Matrix, IsMonomialList, coordinates, Solves, AreImages}
 use Rattle.invariant_space.proofs.EquationLaws.{FixedBelow}
 use Rattle.invariant_space.proofs.equations.add_equations.Given as goal
 

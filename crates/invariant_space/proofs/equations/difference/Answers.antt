@@ -1,5 +1,4 @@
-use Rattle.std.proofs.Common.{◌<◌, ◌∙◌, ap, length, subst, sym, arith, Vec, Global}
-use Rattle.lin_algebra.specs.Vectors.{IsRow, vector}
+use Rattle.invariant_space.proofs.Common.{◌<◌, ◌∙◌, ap, length, subst, sym, arith, Vec, Global, IsRow, vector}
 use Rattle.invariant_space.proofs.EquationLaws.{entry_same, entry_other}
 use Rattle.invariant_space.proofs.Places.{read_twice}
 use Rattle.invariant_space.proofs.equations.difference.Goals as goal

@@ -1,4 +1,4 @@
-use Rattle.std.proofs.Common.{arith}
+use Rattle.invariant_space.proofs.Common.{arith}
 use Rattle.invariant_space.proofs.EquationLaws.{equation_at}
 use Rattle.invariant_space.proofs.equations.equation.Goals as goal
 

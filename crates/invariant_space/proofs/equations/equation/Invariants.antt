@@ -1,7 +1,4 @@
-use Rattle.std.proofs.Common.{◌≡◌, All, Vec, Global, length, get_or}
-use Rattle.alg_core.specs.Fields.{Has, scalar, scalars}
-use Rattle.lin_algebra.specs.Vectors.{unit, vector}
-use Rattle.invariant_space.specs.Monomials.{EachAt}
+use Rattle.invariant_space.proofs.Common.{◌≡◌, All, Vec, Global, length, get_or, Has, scalar, scalars, unit, vector, EachAt}
 use Rattle.invariant_space.proofs.equations.equation.Given as goal
 
 abbrev pub invariant-loop-l : goal.invariant-loop-l

@@ -1,8 +1,4 @@
-use Rattle.std.proofs.Common.{◌<◌, ◌∙◌, ap, length, refl, sym, subst, arith, All}
-use Rattle.lin_algebra.specs.Vectors.{IsRow}
-use Rattle.matrix_group.specs.Actions.{IsSquare}
-use Rattle.invariant_space.specs.Equations.{coordinates, Solves}
-use Rattle.invariant_space.specs.Images.{AreImages}
+use Rattle.invariant_space.proofs.Common.{◌<◌, ◌∙◌, ap, length, refl, sym, subst, arith, All, IsRow, IsSquare, coordinates, Solves, AreImages}
 use Rattle.invariant_space.proofs.EquationLaws.{invariant_more, invariant_all}
 use Rattle.invariant_space.proofs.ImageLaws.{image_rows}
 use Rattle.invariant_space.proofs.Places.{element_at}
@@ -11,7 +7,7 @@ use Rattle.invariant_space.proofs.equations.equations.Goals as goal
 pub loop-i-init : goal.loop-i-init
 loop-i-init g c =
     let n = ap length c.new.ensures.items in
-    record { matrix = record { whole = omega arith; has = λ i d h. absurd (omega arith) }; cols = refl; solves = λ d ts f monomials many images keys. (λ z j m low e. absurd (omega arith), λ z. tt) }
+    record { matrix = record { whole = omega arith; has = λ i d h. absurd (omega arith) }; cols = refl; solves = λ d ts f monomials many images keys. (λ z j m low. absurd (omega arith), λ z. tt) }
 
 pub add_equations-requires-clause-rows : goal.add_equations-requires-clause-rows
 add_equations-requires-clause-rows g c =

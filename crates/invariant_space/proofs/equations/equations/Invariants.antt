@@ -1,13 +1,4 @@
-use Rattle.std.proofs.Common.{◌≡◌, ◌↔◌, ℕ, List, length}
-use Rattle.alg_core.specs.Keys.{Key}
-use Rattle.alg_core.specs.Lists.{In}
-use Rattle.alg_core.specs.Spaces.{over}
-use Rattle.alg_core.specs.SpaceOrder.{key_order}
-use Rattle.alg_core.specs.Vectors.{Vect}
-use Rattle.poly_module.specs.Parts.{Supp}
-use Rattle.lin_algebra.specs.Matrices.{IsMatrix}
-use Rattle.invariant_space.specs.Equations.{IsMonomialList, coordinates, Solves}
-use Rattle.invariant_space.specs.Images.{AllImages}
+use Rattle.invariant_space.proofs.Common.{◌≡◌, ◌↔◌, ℕ, List, length, Key, In, over, key_order, Vect, Supp, IsMatrix, IsMonomialList, coordinates, Solves, AllImages}
 use Rattle.invariant_space.proofs.EquationLaws.{InvariantBelow}
 use Rattle.invariant_space.proofs.equations.equations.Given as goal
 

@@ -1,7 +1,4 @@
-use Rattle.std.proofs.Common.{◌<◌, ◌∙◌, ap, length, subst, sym}
-use Rattle.std.specs.Prelude.{IfSome}
-use Rattle.alg_core.specs.Fields.{scalar, scalar_zero}
-use Rattle.invariant_space.specs.Images.{IsQuotient}
+use Rattle.invariant_space.proofs.Common.{◌<◌, ◌∙◌, ap, length, subst, sym, IfSome, scalar, scalar_zero, IsQuotient}
 use Rattle.invariant_space.proofs.QuotientLaws.{quotient_some, quotient_none}
 use Rattle.invariant_space.proofs.images.coordinate.Goals as goal
 

@@ -1,11 +1,4 @@
-use Rattle.std.proofs.Common.{◌++◌, ◌∷◌, ◌∙◌, [], List, length, ap, arith}
-use Rattle.alg_core.specs.Keys.{Key}
-use Rattle.alg_core.specs.SpaceOrder.{key_order}
-use Rattle.alg_core.specs.Spaces.{over}
-use Rattle.lin_algebra.specs.declared.matrix.Matrix.{Matrix}
-use Rattle.invariant_space.specs.Equations.{IsMonomialList}
-use Rattle.invariant_space.specs.Images.{AreImages}
-use Rattle.invariant_space.specs.Monomials.{keys_of}
+use Rattle.invariant_space.proofs.Common.{◌++◌, ◌∷◌, ◌∙◌, [], List, length, ap, arith, Key, key_order, over, Matrix, IsMonomialList, AreImages, keys_of}
 use Rattle.invariant_space.proofs.ImageLaws.{first_images, first_keys}
 use Rattle.invariant_space.proofs.MonomialSums.{monomial_list}
 use Rattle.invariant_space.proofs.Places.{at_more, length_more}

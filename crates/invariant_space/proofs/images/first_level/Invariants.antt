@@ -1,11 +1,4 @@
-use Rattle.std.proofs.Common.{◌≡◌, List, length}
-use Rattle.alg_core.specs.Keys.{Key}
-use Rattle.alg_core.specs.Spaces.{over}
-use Rattle.alg_core.specs.SpaceOrder.{key_order}
-use Rattle.lin_algebra.specs.declared.matrix.Matrix.{Matrix}
-use Rattle.invariant_space.specs.Equations.{IsMonomialList}
-use Rattle.invariant_space.specs.Images.{AreImages}
-use Rattle.invariant_space.specs.Monomials.{EachAt}
+use Rattle.invariant_space.proofs.Common.{◌≡◌, List, length, Key, over, key_order, Matrix, IsMonomialList, AreImages, EachAt}
 use Rattle.invariant_space.proofs.images.first_level.Given as goal
 
 abbrev pub invariant-loop-generator : goal.invariant-loop-generator

@@ -1,8 +1,4 @@
-use Rattle.std.proofs.Common.{◌≡◌, ◌<◌, ℕ, List, get_or}
-use Rattle.alg_core.specs.Keys.{Key, times_key}
-use Rattle.alg_core.specs.Lists.{In}
-use Rattle.poly_module.specs.MonomialVariables.{variable}
-use Rattle.invariant_space.specs.Images.{IsTable}
+use Rattle.invariant_space.proofs.Common.{◌≡◌, ◌<◌, ℕ, List, get_or, Key, times_key, In, variable, IsTable}
 use Rattle.invariant_space.proofs.images.first_quotient.Given as goal
 
 abbrev pub invariant-loop-j : goal.invariant-loop-j

@@ -1,6 +1,4 @@
-use Rattle.std.proofs.Common.{◌≡◌, ◌+◌, ℕ, suc, subst, arith}
-use Rattle.alg_core.specs.Spaces.{over}
-use Rattle.invariant_space.specs.Images.{IsLevel}
+use Rattle.invariant_space.proofs.Common.{◌≡◌, ◌+◌, ℕ, suc, subst, arith, over, IsLevel}
 use Rattle.invariant_space.proofs.images.level_of_degree.Goals as goal
 
 pub next_level-requires-clause-level : goal.next_level-requires-clause-level

@@ -1,5 +1,4 @@
-use Rattle.alg_core.specs.Spaces.{over}
-use Rattle.invariant_space.specs.Images.{IsLevel}
+use Rattle.invariant_space.proofs.Common.{over, IsLevel}
 use Rattle.invariant_space.proofs.images.level_of_degree.Given as goal
 
 abbrev pub invariant-loop-below : goal.invariant-loop-below

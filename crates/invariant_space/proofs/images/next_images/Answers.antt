@@ -1,6 +1,4 @@
-use Rattle.std.proofs.Common.{◌≡◌, ◌<◌, length, get_or, sym, subst, arith}
-use Rattle.lin_algebra.specs.declared.matrix.Matrix.{Matrix}
-use Rattle.invariant_space.specs.Images.{AreImages}
+use Rattle.invariant_space.proofs.Common.{◌≡◌, ◌<◌, length, get_or, sym, subst, arith, Matrix, AreImages}
 use Rattle.invariant_space.proofs.Places.{at_more, length_more, read_twice}
 use Rattle.invariant_space.proofs.images.next_images.Goals as goal
 

@@ -1,9 +1,4 @@
-use Rattle.std.proofs.Common.{◌≡◌, ℕ, List, length, get_or}
-use Rattle.alg_core.specs.Keys.{Key}
-use Rattle.alg_core.specs.Spaces.{over}
-use Rattle.lin_algebra.specs.declared.matrix.Matrix.{Matrix}
-use Rattle.invariant_space.specs.Images.{IsStep, AreImages, AllImages}
-use Rattle.invariant_space.specs.Monomials.{EachAt}
+use Rattle.invariant_space.proofs.Common.{◌≡◌, ℕ, List, length, get_or, Key, over, Matrix, IsStep, AreImages, AllImages, EachAt}
 use Rattle.invariant_space.proofs.images.next_images.Given as goal
 
 abbrev pub invariant-loop-i : goal.invariant-loop-i

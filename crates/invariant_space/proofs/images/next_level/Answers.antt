@@ -1,7 +1,4 @@
-use Rattle.std.proofs.Common.{◌≡◌, ◌∙◌, ℕ, ap, length, get_or, sym, subst, arith}
-use Rattle.alg_core.specs.Spaces.{over}
-use Rattle.invariant_space.specs.Images.{AllImages}
-use Rattle.invariant_space.specs.Monomials.{AreSums, keys_of}
+use Rattle.invariant_space.proofs.Common.{◌≡◌, ◌∙◌, ℕ, ap, length, get_or, sym, subst, arith, over, AllImages, AreSums, keys_of}
 use Rattle.invariant_space.proofs.ImageLaws.{level_step}
 use Rattle.invariant_space.proofs.Places.{length_keys, read_twice}
 use Rattle.invariant_space.proofs.images.next_level.Goals as goal

@@ -1,13 +1,4 @@
-use Rattle.std.proofs.Common.{◌≡◌, ◌<◌, ◌∙◌, ℕ, List, ap, length, get_or, sym, subst, arith, rules}
-use Rattle.std.specs.Prelude.{All, IfSome, Some}
-use Rattle.alg_core.specs.Fields.{Has}
-use Rattle.alg_core.specs.Keys.{Key}
-use Rattle.alg_core.specs.Spaces.{over}
-use Rattle.poly_module.specs.Polynomials.{single_vector}
-use Rattle.lin_algebra.specs.Vectors.{vector, IsRow}
-use Rattle.lin_algebra.proofs.CutLaws.{IsRow_row}
-use Rattle.matrix_group.specs.Actions.{act_by}
-use Rattle.invariant_space.specs.Images.{IsQuotient, IsTable, IsCoordinates}
+use Rattle.invariant_space.proofs.Common.{◌≡◌, ◌<◌, ◌∙◌, ℕ, List, ap, length, get_or, sym, subst, arith, rules, All, IfSome, Some, Has, Key, over, single_vector, vector, IsRow, IsRow_row, act_by, IsQuotient, IsTable, IsCoordinates}
 use Rattle.invariant_space.proofs.ImageLaws.{some_first, first_within, image_row, next_row}
 use Rattle.invariant_space.proofs.Places.{at_more, length_more}
 use Rattle.invariant_space.proofs.images.next_rows.Goals as goal

@@ -1,10 +1,4 @@
-use Rattle.std.proofs.Common.{◌≡◌, ℕ, List, length, get_or}
-use Rattle.alg_core.specs.Keys.{Key}
-use Rattle.alg_core.specs.Spaces.{over}
-use Rattle.poly_module.specs.Polynomials.{single_vector}
-use Rattle.matrix_group.specs.Actions.{act_by}
-use Rattle.invariant_space.specs.Images.{IsStep, IsCoordinates, AreImages}
-use Rattle.invariant_space.specs.Monomials.{EachAt}
+use Rattle.invariant_space.proofs.Common.{◌≡◌, ℕ, List, length, get_or, Key, over, single_vector, act_by, IsStep, IsCoordinates, AreImages, EachAt}
 use Rattle.invariant_space.proofs.images.next_rows.Given as goal
 
 abbrev pub invariant-loop-l : goal.invariant-loop-l

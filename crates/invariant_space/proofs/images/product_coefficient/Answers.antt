@@ -1,10 +1,4 @@
-use Rattle.std.proofs.Common.{◌≡◌, ◌<◌, ◌+◌, ℕ, suc, length, sym, subst, arith}
-use Rattle.std.specs.Prelude.{IfSome}
-use Rattle.alg_core.specs.Fields.{Has, scalar}
-use Rattle.alg_core.specs.Vectors.{coef_at}
-use Rattle.poly_module.specs.Polynomials.{product}
-use Rattle.lin_algebra.specs.Vectors.{vector}
-use Rattle.matrix_group.specs.Actions.{linear_form}
+use Rattle.invariant_space.proofs.Common.{◌≡◌, ◌<◌, ◌+◌, ℕ, suc, length, sym, subst, arith, IfSome, Has, scalar, coef_at, product, vector, linear_form}
 use Rattle.invariant_space.proofs.Places.{element_at}
 use Rattle.invariant_space.proofs.QuotientLaws.{form_none, form_more, quotient_within, table_at, table_within}
 use Rattle.invariant_space.proofs.images.product_coefficient.Goals as goal

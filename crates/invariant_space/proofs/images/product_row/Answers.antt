@@ -1,12 +1,4 @@
-use Rattle.std.proofs.Common.{◌≡◌, ◌<◌, length, get_or, subst, sym, arith}
-use Rattle.std.specs.Prelude.{All}
-use Rattle.std.proofs.lemmas.List.Elements.{All-push}
-use Rattle.alg_core.specs.Fields.{Has, scalar}
-use Rattle.alg_core.specs.Keys.{Key}
-use Rattle.alg_core.specs.Vectors.{coef_at}
-use Rattle.poly_module.specs.Polynomials.{product}
-use Rattle.lin_algebra.specs.Vectors.{vector}
-use Rattle.matrix_group.specs.Actions.{linear_form}
+use Rattle.invariant_space.proofs.Common.{◌≡◌, ◌<◌, length, get_or, subst, sym, arith, All, All-push, Has, scalar, Key, coef_at, product, vector, linear_form}
 use Rattle.invariant_space.proofs.Places.{at_more, length_more}
 use Rattle.invariant_space.proofs.QuotientLaws.{coordinates_made}
 use Rattle.invariant_space.proofs.images.product_row.Goals as goal

@@ -1,15 +1,4 @@
-use Rattle.std.proofs.Common.{◌≡◌, All, List, length, get_or}
-use Rattle.alg_core.specs.Fields.{Has, scalar}
-use Rattle.alg_core.specs.Keys.{Key}
-use Rattle.alg_core.specs.Lists.{In}
-use Rattle.alg_core.specs.Vectors.{Vect, coef_at}
-use Rattle.poly_module.specs.Parts.{Supp}
-use Rattle.poly_module.specs.Polynomials.{product}
-use Rattle.lin_algebra.specs.Vectors.{vector}
-use Rattle.matrix_group.specs.Actions.{linear_form}
-use Rattle.invariant_space.specs.Equations.{coordinates}
-use Rattle.invariant_space.specs.Images.{IsTable}
-use Rattle.invariant_space.specs.Monomials.{EachAt}
+use Rattle.invariant_space.proofs.Common.{◌≡◌, All, List, length, get_or, Has, scalar, Key, In, Vect, coef_at, Supp, product, vector, linear_form, coordinates, IsTable, EachAt}
 use Rattle.invariant_space.proofs.images.product_row.Given as goal
 
 abbrev pub invariant-loop-s : goal.invariant-loop-s

@@ -1,7 +1,4 @@
-use Rattle.std.proofs.Common.{◌∙◌, ap, length, sym, subst, arith}
-use Rattle.alg_core.specs.Spaces.{over}
-use Rattle.invariant_space.specs.InvariantSpaces.{IsEchelonBasis}
-use Rattle.invariant_space.specs.Monomials.{keys_of}
+use Rattle.invariant_space.proofs.Common.{◌∙◌, ap, length, sym, subst, arith, over, IsEchelonBasis, keys_of}
 use Rattle.invariant_space.proofs.EchelonBasis.{basis_of_kernel}
 use Rattle.invariant_space.proofs.ImageLaws.{level_monomials}
 use Rattle.invariant_space.proofs.Places.{length_keys}

@@ -1,4 +1,4 @@
-use Rattle.alg_core.specs.Spaces.{over}
+use Rattle.invariant_space.proofs.Common.{over}
 use Rattle.invariant_space.proofs.EchelonBasis.{echelon_basis_unique}
 use Rattle.invariant_space.proofs.laws.echelon_bases.Goals as goal
 

@@ -1,7 +1,4 @@
-use Rattle.std.proofs.Common.{◌+◌, ap, length, arith}
-use Rattle.alg_core.specs.Spaces.{over}
-use Rattle.poly_module.specs.SpaceVectors.{IsPolyOf}
-use Rattle.invariant_space.specs.Monomials.{all_monomials}
+use Rattle.invariant_space.proofs.Common.{◌+◌, ap, length, arith, over, IsPolyOf, all_monomials}
 use Rattle.invariant_space.proofs.MonomialSums.{first_sum}
 use Rattle.invariant_space.proofs.Places.{at_none, at_more, length_more}
 use Rattle.invariant_space.proofs.monomials.first_sums.Goals as goal

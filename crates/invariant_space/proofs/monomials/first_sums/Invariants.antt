@@ -1,7 +1,4 @@
-use Rattle.std.proofs.Common.{◌≡◌, ◌+◌, length}
-use Rattle.alg_core.specs.Spaces.{over}
-use Rattle.poly_module.specs.SpaceVectors.{IsPolyOf}
-use Rattle.invariant_space.specs.Monomials.{EachAt, all_monomials}
+use Rattle.invariant_space.proofs.Common.{◌≡◌, ◌+◌, length, over, IsPolyOf, EachAt, all_monomials}
 use Rattle.invariant_space.proofs.monomials.first_sums.Given as goal
 
 abbrev pub invariant-loop-variable : goal.invariant-loop-variable

@@ -1,7 +1,4 @@
-use Rattle.std.proofs.Common.{◌≡◌, ◌+◌, ℕ, suc, length, ap, sym, subst, arith}
-use Rattle.alg_core.specs.Spaces.{over}
-use Rattle.poly_module.specs.SpaceVectors.{IsPolyOf}
-use Rattle.invariant_space.specs.Monomials.{all_monomials}
+use Rattle.invariant_space.proofs.Common.{◌≡◌, ◌+◌, ℕ, suc, length, ap, sym, subst, arith, over, IsPolyOf, all_monomials}
 use Rattle.invariant_space.proofs.MonomialSums.{none_sum, sum_room, sum_more}
 use Rattle.invariant_space.proofs.Places.{at_none, at_more, length_more}
 use Rattle.invariant_space.proofs.monomials.next_sums.Goals as goal

@@ -1,7 +1,4 @@
-use Rattle.std.proofs.Common.{◌≡◌, ◌+◌, ℕ, suc, length}
-use Rattle.alg_core.specs.Spaces.{over}
-use Rattle.poly_module.specs.SpaceVectors.{IsPolyOf}
-use Rattle.invariant_space.specs.Monomials.{EachAt, AreSums, all_monomials}
+use Rattle.invariant_space.proofs.Common.{◌≡◌, ◌+◌, ℕ, suc, length, over, IsPolyOf, EachAt, AreSums, all_monomials}
 use Rattle.invariant_space.proofs.monomials.next_sums.Given as goal
 
 abbrev pub invariant-loop-i : goal.invariant-loop-i

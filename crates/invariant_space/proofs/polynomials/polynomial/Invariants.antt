@@ -1,5 +1,4 @@
-use Rattle.alg_core.specs.Spaces.{over}
-use Rattle.lin_algebra.specs.Vectors.{vector}
+use Rattle.invariant_space.proofs.Common.{over, vector}
 use Rattle.invariant_space.proofs.RowSteps.{Row}
 use Rattle.invariant_space.proofs.polynomials.polynomial.Given as goal
 

@@ -1,9 +1,4 @@
-use Rattle.std.proofs.Common.{All, sym, subst}
-use Rattle.std.proofs.lemmas.List.Elements.{All-push}
-use Rattle.alg_core.specs.Spaces.{over}
-use Rattle.poly_module.specs.SpaceVectors.{IsPoly}
-use Rattle.lin_algebra.specs.Vectors.{IsRow}
-use Rattle.lin_algebra.proofs.CutLaws.{IsRow_row}
+use Rattle.invariant_space.proofs.Common.{All, sym, subst, All-push, over, IsPoly, IsRow, IsRow_row}
 use Rattle.invariant_space.proofs.RowSteps.{rows_more, rows_whole}
 use Rattle.invariant_space.proofs.polynomials.polynomials.Goals as goal
 

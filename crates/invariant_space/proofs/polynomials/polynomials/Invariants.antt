@@ -1,9 +1,4 @@
-use Rattle.std.proofs.Common.{◌≡◌, map, take}
-use Rattle.alg_core.specs.Spaces.{over}
-use Rattle.poly_module.specs.SpaceVectors.{ArePolys, vector_of}
-use Rattle.lin_algebra.specs.Matrices.{vectors_of}
-use Rattle.invariant_space.specs.Equations.{row_polynomial}
-use Rattle.invariant_space.specs.Monomials.{keys_of}
+use Rattle.invariant_space.proofs.Common.{◌≡◌, map, take, over, ArePolys, vector_of, vectors_of, row_polynomial, keys_of}
 use Rattle.invariant_space.proofs.polynomials.polynomials.Given as goal
 
 abbrev pub invariant-loop-i : goal.invariant-loop-i

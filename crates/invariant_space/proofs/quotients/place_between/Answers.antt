@@ -1,10 +1,5 @@
-use Rattle.std.proofs.Common.{◌≡◌, ◌<◌, ◌∙◌, ℕ, inl, inr, ap, get_or, length, sym, arith}
-use Rattle.std.proofs.lemmas.Bool.{cases_lt}
-use Rattle.alg_core.specs.Keys.{key, key_injective}
-use Rattle.alg_core.specs.Spaces.{over}
-use Rattle.poly_module.proofs.EntryLists.{entry_at}
+use Rattle.invariant_space.proofs.Common.{◌≡◌, ◌<◌, ◌∙◌, ap, get_or, length, sym, arith, key, key_injective, over, entry_at, keys_of, below_more, ◌≤◌, Key}
 use Rattle.poly_module.proofs.LookupSteps.{other_place}
-use Rattle.invariant_space.specs.Monomials.{keys_of}
 use Rattle.invariant_space.proofs.Places.{key_read}
 use Rattle.invariant_space.proofs.quotients.place_between.Goals as goal
 
@@ -25,10 +20,8 @@ loop-i-preserved g c = λ i from low v read same.
     let S = over g.F.Field.field g.O.TermOrder.order c.args.space.now in
     let inside : c.loop-i.i < length c.args.terms.now = omega (arith, c.loop-i-test.true, c.requires.to) in
     let term = entry_at S (λ m. m) c.args.terms.now c.loop-i.i c.index-terms-i.result inside c.index-terms-i.is c.requires.fits in
-    elim (cases_lt i c.loop-i.i) [
-      | inl b ↦ c.loop-i.invariant i from b v read same
-      | inr b ↦ let e : c.loop-i.i ≡ i = omega arith in
-          other_place S (c.index-terms-i.result.at.pos, c.index-terms-i.result.at.mono) (c.args.at.now.pos, c.args.at.now.mono) c.compare.result c.compare.ensures.is c.in_default.not-Equal
-          (key_injective (c.index-terms-i.result.at.pos, c.index-terms-i.result.at.mono) (c.args.at.now.pos, c.args.at.now.mono) (term.place.wide ∙ sym c.requires.place.wide)
-          (sym (key_read c.args.terms.now c.loop-i.i c.index-terms-i.result v inside c.index-terms-i.is) ∙ ap (λ (x : ℕ). get_or (keys_of c.args.terms.now) x v) e ∙ read ∙ same))
-    ]
+    below_more (λ i. c.args.from ≤ i → (v : Key) → get_or (keys_of c.args.terms.now) i v ≡ v → ¬ (v ≡ key (c.args.at.now.pos, c.args.at.now.mono))) c.loop-i.i (λ i l from. c.loop-i.invariant i from l)
+    (λ from v read same. other_place S (c.index-terms-i.result.at.pos, c.index-terms-i.result.at.mono) (c.args.at.now.pos, c.args.at.now.mono) c.compare.result c.compare.ensures.is c.in_default.not-Equal
+    (key_injective (c.index-terms-i.result.at.pos, c.index-terms-i.result.at.mono) (c.args.at.now.pos, c.args.at.now.mono) (term.place.wide ∙ sym c.requires.place.wide)
+    (sym (key_read c.args.terms.now c.loop-i.i c.index-terms-i.result v inside c.index-terms-i.is) ∙ read ∙ same)))
+    i low from v read same

@@ -1,6 +1,4 @@
-use Rattle.std.proofs.Common.{◌≡◌, ◌<◌, ◌≤◌, ℕ, get_or}
-use Rattle.alg_core.specs.Keys.{Key, key}
-use Rattle.invariant_space.specs.Monomials.{keys_of}
+use Rattle.invariant_space.proofs.Common.{◌≡◌, ◌<◌, ◌≤◌, ℕ, get_or, Key, key, keys_of}
 use Rattle.invariant_space.proofs.quotients.place_between.Given as goal
 
 abbrev pub invariant-loop-i : goal.invariant-loop-i

@@ -1,7 +1,4 @@
-use Rattle.std.proofs.Common.{◌≡◌, ◌<◌, ◌≤◌, ◌∙◌, ℕ, true, ap, get_or, length, sym, subst, arith}
-use Rattle.std.specs.Prelude.{IfNone, IfSome}
-use Rattle.alg_core.specs.Keys.{Key, key}
-use Rattle.invariant_space.specs.Monomials.{keys_of}
+use Rattle.invariant_space.proofs.Common.{◌≡◌, ◌<◌, ◌≤◌, ◌∙◌, ℕ, true, ap, get_or, length, sym, subst, arith, IfNone, IfSome, Key, key, keys_of}
 use Rattle.invariant_space.proofs.Places.{length_keys}
 use Rattle.invariant_space.proofs.QuotientLaws.{not_divided, quotient_found, quotient_sought, key_position}
 use Rattle.invariant_space.proofs.quotients.quotient_place.Goals as goal

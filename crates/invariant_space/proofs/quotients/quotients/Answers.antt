@@ -1,9 +1,4 @@
-use Rattle.std.proofs.Common.{◌≡◌, ◌<◌, ◌∙◌, ap, get_or, length, sym, subst, arith}
-use Rattle.alg_core.specs.Keys.{Key}
-use Rattle.alg_core.specs.Spaces.{over}
-use Rattle.poly_module.proofs.EntryLists.{entry_at, given_at}
-use Rattle.invariant_space.specs.Images.{IsQuotient}
-use Rattle.invariant_space.specs.Monomials.{keys_of}
+use Rattle.invariant_space.proofs.Common.{◌≡◌, ◌<◌, ◌∙◌, ap, get_or, length, sym, subst, arith, Key, over, entry_at, given_at, IsQuotient, keys_of}
 use Rattle.invariant_space.proofs.Places.{at_more, length_more, length_keys, key_read}
 use Rattle.invariant_space.proofs.QuotientLaws.{next_from}
 use Rattle.invariant_space.proofs.quotients.quotients.Goals as goal

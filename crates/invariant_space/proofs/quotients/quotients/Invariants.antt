@@ -1,8 +1,4 @@
-use Rattle.std.proofs.Common.{◌≡◌, ◌≤◌, ℕ, length, get_or}
-use Rattle.alg_core.specs.Keys.{Key, key}
-use Rattle.poly_module.specs.MonomialVariables.{variable}
-use Rattle.invariant_space.specs.Images.{IsQuotient}
-use Rattle.invariant_space.specs.Monomials.{EachAt, keys_of}
+use Rattle.invariant_space.proofs.Common.{◌≡◌, ◌≤◌, ℕ, length, get_or, Key, key, variable, IsQuotient, EachAt, keys_of}
 use Rattle.invariant_space.proofs.quotients.quotients.Given as goal
 
 abbrev pub invariant-loop-term : goal.invariant-loop-term

@@ -1,9 +1,6 @@
-use Rattle.std.proofs.Common.{ap, length, length-set, arith}
-use Rattle.std.proofs.lemmas.List.{length-replicate}
+use Rattle.invariant_space.proofs.Common.{ap, length, length-set, arith, length-replicate, AreQuotients, keys_of}
 use Rattle.poly_module.proofs.ConstantSteps.{mono_set}
 use Rattle.matrix_group.proofs.ActionSteps.{key_variable}
-use Rattle.invariant_space.specs.Images.{AreQuotients}
-use Rattle.invariant_space.specs.Monomials.{keys_of}
 use Rattle.invariant_space.proofs.Places.{at_more, length_more}
 use Rattle.invariant_space.proofs.quotients.table.Goals as goal
 

@@ -1,6 +1,4 @@
-use Rattle.std.proofs.Common.{◌≡◌, length}
-use Rattle.invariant_space.specs.Images.{IsTable}
-use Rattle.invariant_space.specs.Monomials.{keys_of}
+use Rattle.invariant_space.proofs.Common.{◌≡◌, length, IsTable, keys_of}
 use Rattle.invariant_space.proofs.quotients.table.Given as goal
 
 abbrev pub invariant-loop-j : goal.invariant-loop-j

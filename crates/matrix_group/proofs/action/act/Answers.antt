@@ -1,5 +1,4 @@
-use Rattle.std.proofs.Common.{◌≡◌, ℕ, List, length, sym, ap, subst, arith}
-use Rattle.alg_core.specs.Spaces.{over, entries}
+use Rattle.matrix_group.proofs.Common.{◌≡◌, ℕ, List, length, sym, ap, subst, arith, over, entries}
 use Rattle.matrix_group.proofs.ImageLists.{AreImages, images_start, images_count, images_step, images_polys, images_small, fits_has, fits_wide, value_acted}
 use Rattle.matrix_group.proofs.action.act.Goals as goal
 

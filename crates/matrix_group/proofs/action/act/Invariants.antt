@@ -1,5 +1,4 @@
-use Rattle.std.proofs.Common.{◌≡◌, length}
-use Rattle.alg_core.specs.Spaces.{over}
+use Rattle.matrix_group.proofs.Common.{◌≡◌, length, over}
 use Rattle.matrix_group.proofs.ImageLists.{AreImages}
 use Rattle.matrix_group.proofs.action.act.Given as goal
 

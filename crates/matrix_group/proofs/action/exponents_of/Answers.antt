@@ -1,5 +1,4 @@
-use Rattle.std.proofs.Common.{slice_set, ap, ◌∙◌}
-use Rattle.alg_core.specs.Monomials.{mono}
+use Rattle.matrix_group.proofs.Common.{slice_set, ap, ◌∙◌, mono}
 use Rattle.poly_module.proofs.ConstantSteps.{mono_set}
 use Rattle.matrix_group.proofs.action.exponents_of.Goals as goal
 

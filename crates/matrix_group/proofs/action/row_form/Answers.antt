@@ -1,13 +1,9 @@
-use Rattle.std.proofs.Common.{◌≡◌, ℕ, List, refl, subst, sym, ap, ◌∙◌, arith}
-use Rattle.std.specs.Prelude.{All}
-use Rattle.alg_core.specs.Fields.{Has}
-use Rattle.alg_core.specs.Vectors.{vec}
-use Rattle.matrix_group.specs.Actions.{linear_form}
-use Rattle.alg_core.specs.Spaces.{over, entry, entries, IsPlace}
+use Rattle.matrix_group.proofs.Common.{◌≡◌, ℕ, List, refl, subst, sym, ap, ◌∙◌, arith, All, Has, vec, linear_form, over, entries, IsPlace}
+use Rattle.alg_core.specs.Spaces.{entry}
 use Rattle.lin_algebra.specs.Matrices.{entries as cells_of}
 use Rattle.poly_module.proofs.CheckedEntries.{all_pushed}
-use Rattle.matrix_group.proofs.ActionSteps.{cell_within, cell_has, cell_entry, form_start, form_step}
 use Rattle.poly_module.proofs.SpaceVectorLaws.{vector_given, poly_given}
+use Rattle.matrix_group.proofs.ActionSteps.{cell_within, cell_has, cell_entry, form_start, form_step}
 use Rattle.matrix_group.proofs.LinearForms.{linear_form_polynomial}
 use Rattle.matrix_group.proofs.action.row_form.Goals as goal
 

@@ -1,10 +1,5 @@
-use Rattle.std.proofs.Common.{◌≡◌}
-use Rattle.std.specs.Prelude.{All}
-use Rattle.alg_core.specs.Fields.{Has}
-use Rattle.alg_core.specs.Spaces.{over, entries, IsPlace}
-use Rattle.alg_core.specs.Vectors.{vec}
+use Rattle.matrix_group.proofs.Common.{◌≡◌, All, Has, over, entries, IsPlace, vec, linear_form}
 use Rattle.lin_algebra.specs.Matrices.{entries as cells_of}
-use Rattle.matrix_group.specs.Actions.{linear_form}
 use Rattle.matrix_group.proofs.action.row_form.Given as goal
 
 abbrev pub invariant-loop-j : goal.invariant-loop-j

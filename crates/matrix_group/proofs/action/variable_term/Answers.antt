@@ -1,4 +1,4 @@
-use Rattle.std.proofs.Common.{◌∙◌}
+use Rattle.matrix_group.proofs.Common.{◌∙◌}
 use Rattle.matrix_group.proofs.ActionSteps.{key_variable}
 use Rattle.matrix_group.proofs.action.variable_term.Goals as goal
 

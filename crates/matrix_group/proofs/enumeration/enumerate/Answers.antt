@@ -1,6 +1,4 @@
-use Rattle.std.proofs.Common.{All, Err, refl, sym, ap, subst, ◌∙◌, arith}
-use Rattle.matrix_group.specs.Actions.{IsSquare}
-use Rattle.matrix_group.specs.Groups.{size, cells_of, IsWalk, AreElements}
+use Rattle.matrix_group.proofs.Common.{All, Err, refl, sym, ap, subst, ◌∙◌, arith, IsSquare, size, cells_of, IsWalk}
 use Rattle.matrix_group.proofs.GroupLaws.{matrices_invertible, elements_group}
 use Rattle.matrix_group.proofs.Turns.{error_same, turn_start, turn_square, turn_more, turn_over, turn_done, first_found, first_over, turns_walk, walk_size}
 use Rattle.matrix_group.proofs.Walks.{walk_elements}
@@ -59,29 +57,23 @@ loop-place-preserved g c =
       reached = (let below = turn.below in omega (arith, below));
     }
 
-is_walk : (g : _) (c : goal.In_ok-group g) → IsWalk (g.F.Field.field c.args.field.now) (size c.args.gens.now) (cells_of c.args.gens.now) (cells_of c.in_ok-group.group)
-is_walk g c =
+pub returns-clause-walk : goal.returns-clause-walk
+returns-clause-walk g c =
     let kept = c.loop-place.invariant in
     let len = c.len.ensures.len in
     let test = c.loop-place-test.false in
     subst (λ ms. IsWalk (g.F.Field.field c.args.field.now) (size c.args.gens.now) (cells_of c.args.gens.now) (cells_of ms)) (sym c.in_ok-group.ensures.is)
     (turns_walk (g.F.Field.field c.args.field.now) (size c.args.gens.now) c.args.gens.now c.args.max c.loop-place.place c.loop-place.found.keys kept.is kept.reached (omega (arith, len, test)))
 
-are_elements : (g : _) (c : goal.In_ok-group g) → AreElements (g.F.Field.field c.args.field.now) (size c.args.gens.now) (cells_of c.args.gens.now) (cells_of c.in_ok-group.group)
-are_elements g c = walk_elements (g.F.Field.field c.args.field.now) (size c.args.gens.now) (cells_of c.args.gens.now) (cells_of c.in_ok-group.group) (is_walk g c)
-
-pub returns-clause-walk : goal.returns-clause-walk
-returns-clause-walk g c = is_walk g c
-
 pub returns-clause-elements : goal.returns-clause-elements
-returns-clause-elements g c = are_elements g c
+returns-clause-elements g c = walk_elements (g.F.Field.field c.args.field.now) (size c.args.gens.now) (cells_of c.args.gens.now) (cells_of c.in_ok-group.group) (returns-clause-walk g c)
 
 pub returns-clause-group : goal.returns-clause-group
 returns-clause-group g c =
     elements_group (g.F.Field.field c.args.field.now) (size c.args.gens.now) (cells_of c.args.gens.now) (cells_of c.in_ok-group.group)
-    (matrices_invertible (g.F.Field.field c.args.field.now) (size c.args.gens.now) c.args.gens.now c.requires.square c.requires.invertible) (are_elements g c)
+    (matrices_invertible (g.F.Field.field c.args.field.now) (size c.args.gens.now) c.args.gens.now c.requires.square c.requires.invertible) (returns-clause-elements g c)
 
 pub returns-clause-size : goal.returns-clause-size
 returns-clause-size g c =
     walk_size (g.F.Field.field c.args.field.now) (size c.args.gens.now) (cells_of c.args.gens.now) c.in_ok-group.group
-    (subst (All (IsSquare (g.F.Field.field c.args.field.now) (size c.args.gens.now))) (sym c.in_ok-group.ensures.is) c.loop-place.invariant.square) (is_walk g c)
+    (subst (All (IsSquare (g.F.Field.field c.args.field.now) (size c.args.gens.now))) (sym c.in_ok-group.ensures.is) c.loop-place.invariant.square) (returns-clause-walk g c)

@@ -1,6 +1,4 @@
-use Rattle.std.proofs.Common.{◌≡◌, ◌≤◌, ◌+◌, ◌-◌, All, length}
-use Rattle.matrix_group.specs.Actions.{IsSquare}
-use Rattle.matrix_group.specs.Groups.{size, cells_of, walk}
+use Rattle.matrix_group.proofs.Common.{◌≡◌, ◌≤◌, ◌+◌, ◌-◌, All, length, IsSquare, size, cells_of, walk}
 use Rattle.matrix_group.proofs.Turns.{IsTurn}
 use Rattle.matrix_group.proofs.enumeration.enumerate.Given as goal
 

@@ -1,5 +1,4 @@
-use Rattle.std.proofs.Common.{ℕ, List, sym, ◌∙◌}
-use Rattle.alg_core.specs.Spaces.{over}
+use Rattle.matrix_group.proofs.Common.{sym, ◌∙◌}
 use Rattle.matrix_group.proofs.invariance.is_fixed.Goals as goal
 
 pub returns : goal.returns

@@ -1,9 +1,4 @@
-use Rattle.std.proofs.Common.{◌≡◌, [], ℕ, List, ap, subst, sym, ◌∙◌}
-use Rattle.alg_core.specs.Spaces.{over, entries, Fits}
-use Rattle.alg_core.specs.Vectors.{vec}
-use Rattle.alg_core.proofs.VectorLaws.{vec_nothing}
-use Rattle.matrix_group.specs.Groups.{size}
-use Rattle.poly_module.proofs.SpaceVectorLaws.{vector_given}
+use Rattle.reynolds_op.proofs.Common.{◌≡◌, [], ℕ, List, ap, subst, sym, ◌∙◌, over, entries, Fits, vec, vec_nothing, size, vector_given}
 use Rattle.reynolds_op.proofs.AverageSteps.{sum_step, acts_at}
 use Rattle.reynolds_op.proofs.reynolds.sum_of_images.Goals as goal
 

@@ -1,8 +1,4 @@
-use Rattle.std.proofs.Common.{take}
-use Rattle.alg_core.specs.Spaces.{over}
-use Rattle.matrix_group.specs.Groups.{size, cells_of}
-use Rattle.poly_module.specs.SpaceVectors.{vector_of, IsVectorOf}
-use Rattle.reynolds_op.specs.Averages.{sum_over}
+use Rattle.reynolds_op.proofs.Common.{take, over, size, cells_of, vector_of, IsVectorOf, sum_over}
 use Rattle.reynolds_op.proofs.reynolds.sum_of_images.Given as goal
 
 abbrev pub invariant-loop-i : goal.invariant-loop-i

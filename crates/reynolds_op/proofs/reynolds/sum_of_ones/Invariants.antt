@@ -1,6 +1,4 @@
-use Rattle.std.proofs.Common.{◌≡◌}
-use Rattle.alg_core.specs.Fields.{Has}
-use Rattle.alg_core.specs.Fields.{ones}
+use Rattle.reynolds_op.proofs.Common.{◌≡◌, Has, ones}
 use Rattle.reynolds_op.proofs.reynolds.sum_of_ones.Given as goal
 
 abbrev pub invariant-loop : goal.invariant-loop

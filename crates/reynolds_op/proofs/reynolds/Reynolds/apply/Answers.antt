@@ -1,11 +1,5 @@
-use Rattle.std.proofs.Common.{◌≡◌, ℕ, List, ap₂, ap, subst, sym, ◌∙◌}
-use Rattle.alg_core.specs.Spaces.{over}
-use Rattle.alg_core.specs.Vectors.{scale}
-use Rattle.matrix_group.specs.Groups.{size, cells_of}
-use Rattle.poly_module.specs.SpaceVectors.{vector_of}
-use Rattle.reynolds_op.specs.Averages.{sum_over, ActTogether}
+use Rattle.reynolds_op.proofs.Common.{◌≡◌, ℕ, List, ap₂, ap, subst, sym, ◌∙◌, over, scale, size, cells_of, vector_of, sum_over, ActTogether, vector_given, poly_given}
 use Rattle.reynolds_op.proofs.AverageSteps.{together}
-use Rattle.poly_module.proofs.SpaceVectorLaws.{vector_given, poly_given}
 use Rattle.reynolds_op.proofs.AverageLaws.{average_polynomial}
 use Rattle.reynolds_op.proofs.reynolds.Reynolds.apply.Goals as goal
 

@@ -1,6 +1,4 @@
-use Rattle.std.proofs.Common.{length, sym, subst, refl}
-use Rattle.std.specs.Prelude.{IsNone}
-use Rattle.alg_core.proofs.OnesLaws.{exactly_divided}
+use Rattle.reynolds_op.proofs.Common.{length, sym, subst, refl, IsNone, exactly_divided}
 use Rattle.reynolds_op.proofs.reynolds.Reynolds.of.Goals as goal
 
 pub returns-in_err-factor-clause-none : goal.returns-in_err-factor-clause-none
