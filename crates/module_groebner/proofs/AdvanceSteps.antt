@@ -28,7 +28,7 @@ module _ {E : Type 0} where
   appended_is [] = refl
   appended_is (e ∷ r) = refl
 
-  pair_same : (c d : Progress E) → d.members ≡ c.members → (p : ℕ × ℕ) → IsPair c p → IsPair d p
+  pub pair_same : (c d : Progress E) → d.members ≡ c.members → (p : ℕ × ℕ) → IsPair c p → IsPair d p
   pair_same c d e p h = record {
     rising = h.rising;
     within = subst (λ l. p.1 < length l) (sym e) h.within;

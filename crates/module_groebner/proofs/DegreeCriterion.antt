@@ -184,7 +184,7 @@ module _ {E : Type 0} (S : SpaceOver E) (g : ℕ → Vect S.field) where
           at (inl z) r = lower e _ (subst (IsSumBelow S g x) (sym (nothing e z)) (sum_zero S g (λ y. o.compare y x ≡ Less))) r
           at (inr t) r = which t.0 t.1 (trichotomy o (times_key e.1 t.0) x) r
 
-  below_keys : (x : Key) (w : Vect S.field) → IsSumBelow S g x w → Supp S.field (λ s. (key_order S).compare s x ≡ Less) w
+  pub below_keys : (x : Key) (w : Vect S.field) → IsSumBelow S g x w → Supp S.field (λ s. (key_order S).compare s x ≡ Less) w
   below_keys x w a = sum_keys S g (λ s. o.compare s x ≡ Less) (λ s. o.compare s x ≡ Less) (λ s. less_dec S s x) down w a
     where
       down : (s t : Key) → o.compare s x ≡ Less → (t ≡ s) ⊎ (o.compare t s ≡ Less) → o.compare t x ≡ Less

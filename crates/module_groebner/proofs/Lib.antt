@@ -33,3 +33,5 @@ pub mod PairSearch
 pub mod BasisSteps
 pub mod InterreductionSteps
 pub mod FinishSteps
+pub mod Chains
+pub mod LinkSteps

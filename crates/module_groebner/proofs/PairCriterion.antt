@@ -87,7 +87,7 @@ module _ {E : Type 0} (S : SpaceOver E) (g : ℕ → Vect S.field) where
     undo a b w e = sym ((vectors k).mul_act b a w) ∙ ap (λ c. (vectors k).◌·◌ c w) ((scalars k).mul_comm b a ∙ e) ∙ (vectors k).one_act w
 
     -- the multiple of the first member by that of the second
-    forth : (c : Scalar S.field) × (w : Vect S.field) × IsSumBelow S g x w × (plus S.field ((vectors S.field).◌·◌ c xj) w ≡ xi)
+    pub forth : (c : Scalar S.field) × (w : Vect S.field) × IsSumBelow S g x w × (plus S.field ((vectors S.field).◌·◌ c xj) w ≡ xi)
     unfolding plus
     forth =
         let a = coef_at k (g i) sv.left in (
@@ -98,7 +98,7 @@ module _ {E : Type 0} (S : SpaceOver E) (g : ℕ → Vect S.field) where
         )
 
     -- and that of the second by that of the first
-    back : (c : Scalar S.field) × (w : Vect S.field) × IsSumBelow S g x w × (plus S.field ((vectors S.field).◌·◌ c xi) w ≡ xj)
+    pub back : (c : Scalar S.field) × (w : Vect S.field) × IsSumBelow S g x w × (plus S.field ((vectors S.field).◌·◌ c xi) w ≡ xj)
     unfolding plus minus
     back =
         let b = coef_at k (g j) sv.right in

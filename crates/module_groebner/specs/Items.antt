@@ -9,16 +9,21 @@
 --                           place after the members
 --   IsAppended c d r        from c to d the member r is appended, where r is not 0, with the pairs that it makes
 --   IsTaken c d i           from c to d the item i is taken off what is still to treat
+--   HasNoPair ps a b        of the places a and b, by rising places, there is no pair in ps
+--   IsLink c p l x          the member at the place l links the pair p of places, with the common multiple x of their leads: its
+--                           lead divides x, and no pair of it and one of the two is still to treat
+--   IsTreatedItem S c i     the item i is a pair that is treated
 use Rattle.std.specs.Prelude.{◌≡◌, ◌<◌, ◌≤◌, ℕ, List, [], ◌∷◌, ◌++◌, All, Contains, length, slice_index_or}
 use Rattle.std.specs.List.Sorted.{IsPermutation}
 use Rattle.alg_core.specs.KeyLists.{place_degree}
+use Rattle.alg_core.specs.Keys.{Key, key, KeyDivides}
 use Rattle.alg_core.specs.Vectors.{Entry, Vect, vec}
 use Rattle.alg_core.specs.Spaces.{SpaceOver}
 use Rattle.module_groebner.specs.declared.completion.Item.{Item}
 use Rattle.module_groebner.specs.declared.completion.Item.TheVariants.{Generator, Pair}
 use Rattle.module_groebner.specs.Progress.{Progress, lead_place, IsLeast, generator_degree, pair_degree}
-use Rattle.module_groebner.specs.Completions.{IsPair, members}
-use Rattle.module_groebner.specs.SVectors.{IsSVector}
+use Rattle.module_groebner.specs.Completions.{IsPair, member_place, members}
+use Rattle.module_groebner.specs.SVectors.{IsSVector, IsTreated}
 
 -- none where r is 0
 abbrev pub new_members : {E : Type 0} → List (Entry E) → List (List (Entry E))
@@ -28,6 +33,10 @@ new_members (e ∷ es) = (e ∷ es) ∷ []
 abbrev pub first_degree : {E : Type 0} → List ℕ → List ℕ → List (Entry E) → ℕ
 first_degree ws ss [] = 0
 first_degree ws ss (e ∷ es) = place_degree ws ss e.0
+
+pub record HasNoPair (ps : List (ℕ × ℕ)) (a b : ℕ) : Type 0 where
+  pub rising : a < b → ¬ Contains ps (a, b)
+  pub falling : b < a → ¬ Contains ps (b, a)
 
 module _ {E : Type 0} (c : Progress E) where
   pub record ArePairsWith (r : List (Entry E)) (ps : List (ℕ × ℕ)) : Type 0 where
@@ -50,6 +59,14 @@ module _ {E : Type 0} (c : Progress E) where
   pub record IsCurrent (i : Item) : Type 0 where
     pub within : IsWithin i
     pub least : IsLeast c (item_degree i)
+
+  pub record IsLink (p : ℕ × ℕ) (l : ℕ) (x : Key) : Type 0 where
+    pub within : l < length c.members
+    pub divides : KeyDivides (key (member_place c l)) x
+    pub not_first : ¬ (l ≡ p.0)
+    pub not_second : ¬ (l ≡ p.1)
+    pub first : HasNoPair c.pairs l p.0
+    pub second : HasNoPair c.pairs l p.1
 
   pub record IsAppended (d : Progress E) (r : List (Entry E)) : Type 0 where
     pub weights : d.weights ≡ c.weights
@@ -80,3 +97,7 @@ module _ {E : Type 0} (c d : Progress E) where
 abbrev pub IsVectorOfItem : {E : Type 0} (S : SpaceOver E) → Progress E → Item → Vect S.field → Type 0
 IsVectorOfItem S c (Generator i) v = vec S.field (slice_index_or c.generators i []) ≡ v
 IsVectorOfItem S c (Pair i) v = let p = slice_index_or c.pairs i (0, 0) in IsSVector S (members S c p.0) (members S c p.1) v
+
+abbrev pub IsTreatedItem : {E : Type 0} (S : SpaceOver E) → Progress E → Item → Type 0
+IsTreatedItem S c (Generator i) = ⊥
+IsTreatedItem S c (Pair i) = let p = slice_index_or c.pairs i (0, 0) in IsTreated S (members S c) p.0 p.1

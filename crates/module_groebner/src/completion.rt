@@ -1,6 +1,8 @@
-ghost use Rattle.std.specs.Prelude.{ℕ, ◌≡◌, ◌↔◌, ◌⊎◌, ◌<◌, ◌≤◌, [], Ok, Some, IsNone, IsSome, IfSome, IfOk, IfErr, OnOk, OnErr, map};
+ghost use Rattle.std.specs.Prelude.{ℕ, ◌≡◌, ◌↔◌, ◌⊎◌, ◌<◌, ◌≤◌, [], length, map};
+ghost use Rattle.std.specs.Prelude.{Ok, Some, IsTrue, IsNone, IsSome, IfSome, IfOk, IfErr, OnOk, OnErr};
 ghost use Rattle.std.specs.List.Sorted.{IsPermutation};
-ghost use Rattle.alg_core.specs.Spaces.{over, entries};
+ghost use Rattle.alg_core.specs.Keys.{key};
+ghost use Rattle.alg_core.specs.Spaces.{over, entries, place, IsPlace};
 ghost use Rattle.alg_core.specs.Vectors.{Vect, zero_vector};
 ghost use Rattle.poly_module.specs.Degrees.{IsDegree};
 ghost use Rattle.poly_module.specs.Modules.{InModule, listed};
@@ -12,14 +14,18 @@ ghost use Rattle.module_groebner.specs.BasisBounds.{NothingAbove};
 ghost use Rattle.module_groebner.specs.Remainders.{IsRemainder, KeepsDegrees};
 ghost use Rattle.module_groebner.specs.Progress.{IsDone, IsUnchanged, left};
 ghost use Rattle.module_groebner.specs.Items.{IsWithin, IsCurrent, IsVectorOfItem, ArePairsWith, IsAppended, IsTaken};
-ghost use Rattle.module_groebner.specs.Completions.{SameModule, generated, StandsOver, TreatsGenerator, TreatsPair, Extends, IsOver, members};
+ghost use Rattle.module_groebner.specs.Items.{IsLink, IsTreatedItem};
+ghost use Rattle.module_groebner.specs.Completions.{SameModule, generated, StandsOver, TreatsGenerator, TreatsPair};
+ghost use Rattle.module_groebner.specs.Completions.{Extends, IsOver, members};
 
 use crate::bound::{BasisBound, Which};
+use crate::chain::is_pending;
 use crate::degrees::{generator_degree, lead_position, pair_degree};
 use crate::division::divide;
 use crate::interreduction::interreduced;
-use crate::pair::s_vector;
-use alg_core::{Field, Memory, Mono, Space, TermOrder};
+use crate::pair::{lcm_of_leads, s_vector};
+use crate::reduction::leading_term;
+use alg_core::{Field, Memory, ModTerm, Mono, Space, TermOrder};
 use poly_module::{Vector, copy, degree};
 use std::alloc::Global;
 use std::marker::Model;
@@ -172,6 +178,70 @@ impl<E: Copy> Completion<E> {
         }
     }
 
+    /// Whether the member at this place links the pair: its lead divides the common multiple of the leads of the two, and
+    /// no pair of it and one of them is still to treat.
+    fn is_link<F: Field<Elem = E>, O: TermOrder>(
+        &self,
+        space: &Space<F, O>,
+        k: usize,
+        pair: (u64, u64),
+        common: &ModTerm<Mono>,
+    ) -> bool
+        requires positive { IsPositive (over F.field O.order space.now) }
+        requires stands { StandsOver (over F.field O.order space.now) self.now }
+        requires within { k < length self.now.members }
+        requires place { IsPlace (over F.field O.order space.now) (place (λ m. m) common.now) }
+        ensures link { IsTrue result → IsLink self.now pair k (key (place (λ m. m) common.now)) }
+    {
+        let member = &self.members[k];
+        let lead = leading_term(space, member);
+        if !lead.at.divides(common) {
+            return false;
+        }
+        let l = k as u64;
+        if l == pair.0 {
+            return false;
+        }
+        if l == pair.1 {
+            return false;
+        }
+        if is_pending(&self.pairs, l, pair.0) {
+            return false;
+        }
+        if is_pending(&self.pairs, l, pair.1) {
+            return false;
+        }
+        true
+    }
+
+    /// Whether the item is a pair that a member links. Then it is treated without a division.
+    /// (Buchberger's chain criterion; Derksen and Kemper, section 1.1.)
+    fn is_linked<F: Field<Elem = E>, O: TermOrder>(
+        &self,
+        space: &Space<F, O>,
+        item: Item,
+    ) -> Result<bool, Memory>
+        requires positive { IsPositive (over F.field O.order space.now) }
+        requires stands { StandsOver (over F.field O.order space.now) self.now }
+        requires current { IsCurrent self.now item }
+        ensures treated { let S = over F.field O.order space.now in
+            IfOk result (λ b. IsTrue b → IsTreatedItem S self.now item) }
+    {
+        let Item::Pair(i) = item else {
+            return Ok(false);
+        };
+        let pair = self.pairs[i];
+        let left = &self.members[pair.0 as usize];
+        let right = &self.members[pair.1 as usize];
+        let common = lcm_of_leads(self.alloc, space, left, right)?;
+        for k in 0..self.members.len() {
+            if self.is_link(space, k, pair, &common) {
+                return Ok(true);
+            }
+        }
+        Ok(false)
+    }
+
     /// The pairs still to treat, with those that the vector makes as a member after the others.
     fn pairs_with(&self, vector: &Vector<E, Mono>) -> Result<Vec<(u64, u64)>, Memory>
         ensures pairs { IfOk result (λ ps. ArePairsWith self.now (entries (λ m. m) vector.now) ps.items) }
@@ -216,6 +286,20 @@ impl<E: Copy> Completion<E> {
                 let _ = self.pairs.swap_remove(i);
             }
         }
+    }
+
+    /// Takes the current item, a pair that is treated, off what is still to treat.
+    fn pass<F: Field<Elem = E>, O: TermOrder>(&mut self, _space: &Space<F, O>, pair: Item)
+        requires stands { StandsOver (over F.field O.order _space.now) self.old }
+        requires current { IsCurrent self.old pair }
+        requires treated { IsTreatedItem (over F.field O.order _space.now) self.old pair }
+        ensures stands { StandsOver (over F.field O.order _space.now) self.new }
+        ensures extends { Extends (over F.field O.order _space.now) self.old self.new }
+        ensures treats { let S = over F.field O.order _space.now in
+            TreatsGenerator S self.old self.new ⊎ TreatsPair S self.old self.new }
+        ensures falls { left self.new < left self.old }
+    {
+        self.take(pair);
     }
 
     /// A completion of the module of the generators, which are homogeneous, up to the cap: it has no
@@ -282,6 +366,10 @@ impl<E: Copy> Completion<E> {
         let Some(item) = self.current(space)? else {
             return Ok(Step::Finished);
         };
+        if self.is_linked(space, item)? {
+            self.pass(space, item);
+            return Ok(Step::More);
+        }
         let remainder = self.remainder(space, item)?;
         if let Some(d) = degree_over(space, &remainder, self.cap) {
             return Ok(Step::Above(BasisBound {

@@ -1,5 +1,6 @@
 ghost use Rattle.std.specs.Prelude.{◌≡◌, ◌≤◌, IfOk};
 ghost use Rattle.alg_core.specs.Keys.{Key, key, times_key, KeyDivides};
+ghost use Rattle.alg_core.specs.CommonMultiples.{common_multiple};
 ghost use Rattle.alg_core.specs.Monomials.{Mon};
 ghost use Rattle.alg_core.specs.SpaceGrading.{weight};
 ghost use Rattle.alg_core.specs.Spaces.{over, place, IsPlace};
@@ -40,6 +41,29 @@ fn monic_multiple<F: Field, O: TermOrder>(
     let inverse = space.field.inv(lead.coef).unwrap();
     let multiple = mul_term(alloc, space, inverse, &monomial, v)?;
     Ok(multiple)
+}
+
+/// The least common multiple of the leads of a and b, which are not 0 and have them at one position.
+pub(crate) fn lcm_of_leads<F: Field, O: TermOrder>(
+    alloc: Global,
+    space: &Space<F, O>,
+    a: &Vector<F::Elem, Mono>,
+    b: &Vector<F::Elem, Mono>,
+) -> Result<ModTerm<Mono>, Memory>
+    requires left { IsVector (over F.field O.order space.now) (λ m. m) a.now }
+    requires right { IsVector (over F.field O.order space.now) (λ m. m) b.now }
+    requires position { let S = over F.field O.order space.now in (s : Key) × (t : Key)
+        × LeadBy S.field (key_order S) (vector_of S (λ m. m) a.now) s
+        × LeadBy S.field (key_order S) (vector_of S (λ m. m) b.now) t × (s.0 ≡ t.0) }
+    ensures place { let S = over F.field O.order space.now in IfOk result (λ l. IsPlace S (place (λ m. m) l)) }
+    ensures is { let S = over F.field O.order space.now in let of = vector_of S (λ m. m) in
+        IfOk result (λ l. (s t : Key) → LeadBy S.field (key_order S) (of a.now) s
+        → LeadBy S.field (key_order S) (of b.now) t → key (place (λ m. m) l) ≡ common_multiple s t) }
+{
+    let s = leading_term(space, a);
+    let t = leading_term(space, b);
+    let l = s.at.lcm(alloc, &t.at)?;
+    Ok(l)
 }
 
 /// The S-vector of a and b, which are not 0 and have their leads at one position: the difference of
