@@ -15,12 +15,12 @@ use Rattle.poly_module.specs.Modules.{listed}
 use Rattle.poly_module.specs.Walks.{Keeps}
 use Rattle.poly_module.proofs.CombinationLaws.{over_zero}
 use Rattle.secondary_gens.proofs.CombinationSteps.{in_at}
-use Rattle.secondary_gens.proofs.Lists.{forms_length, forms_at, listed_in, place_of_in}
+use Rattle.secondary_gens.proofs.Lists.{forms_length, forms_at, listed_in, place_of_in, split_at}
 use Rattle.irreducible_gens.specs.Algebras.{IsPolynomialIn, InAlgebra}
 use Rattle.irreducible_gens.specs.Irreducibles.{numbers, member, members, AreIrreducibles, IsOfPositiveDegree, IsIrreducible}
 use Rattle.irreducible_gens.proofs.Generators.{unit, over_polynomial, polynomial_over, over_wider, over_generator, listed_back}
 use Rattle.irreducible_gens.proofs.Kept.{kept_fresh, kept_from, kept_covers, numbers_bounds, numbers_has, map_split}
-use Rattle.irreducible_gens.proofs.Minimal.{constant_over, new_needed, AreNew, split_at}
+use Rattle.irreducible_gens.proofs.Minimal.{constant_over, new_needed, AreNew}
 
 -- places that a walk along rising numbers keeps rise
 Rises : List ℕ → Type 0

@@ -6,5 +6,6 @@ pub mod Chosen
 pub mod OneWord
 pub mod UnitSteps
 pub mod WordSteps
+pub mod WordLists
 pub mod ReducibleSteps
 pub mod ChoiceSteps

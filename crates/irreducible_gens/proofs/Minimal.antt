@@ -1,5 +1,5 @@
 -- Among forms whose degrees do not fall, generators none of which is a polynomial in those before it: none is one in the others.
-use Rattle.std.proofs.Common.{◌≡◌, ℕ, zero, suc, ◌+◌, ◌<◌, ◌≤◌, List, [], ◌∷◌, ◌++◌, length, take, drop, sym, ap, ap₂, ◌∙◌, refl, subst, arith, append_assoc}
+use Rattle.std.proofs.Common.{◌≡◌, ℕ, zero, suc, ◌+◌, ◌<◌, ◌≤◌, List, [], ◌∷◌, ◌++◌, length, take, drop, sym, ap, ap₂, ◌∙◌, subst, arith, append_assoc}
 use Rattle.std.proofs.lemmas.List.{length-append, length-drop, length-take-le}
 use Rattle.alg_core.specs.Fields.{FieldOn}
 use Rattle.alg_core.specs.Keys.{Key}
@@ -22,7 +22,7 @@ use Rattle.poly_module.proofs.CombinationLaws.{combination_value_linear, combina
 use Rattle.poly_module.proofs.MarkValues.{forms_append}
 use Rattle.poly_module.proofs.SpaceVectorLaws.{minus_unique, supp_minus}
 use Rattle.secondary_gens.proofs.Irredundant.{never_parted}
-use Rattle.secondary_gens.proofs.Lists.{forms_length, forms_at, forms_push, weight_zero_is_one}
+use Rattle.secondary_gens.proofs.Lists.{forms_length, forms_at, forms_push, forms_remove, height_drop, split_at, weight_zero_is_one}
 use Rattle.irreducible_gens.specs.Algebras.{IsPolynomialIn, InAlgebra}
 use Rattle.irreducible_gens.specs.Irreducibles.{AreNeeded}
 use Rattle.irreducible_gens.proofs.Generators.{unit, unit_term, over_polynomial, polynomial_over, over_wider, over_generator, mixed_over, listed_back}
@@ -83,19 +83,6 @@ module _ {E : Type 0} (k : FieldOn E) where
         let over : IsForm k ws d p.over = subst (IsForm k ws d) (sym (minus_unique k p.over f p.rest p.sum)) (supp_minus k (OfDegree k ws d) f p.rest g rest) in
         subst (Spans k (vs ++ q ∷ [])) p.sum (span_append (vectors k) vs (q ∷ []) p.over p.rest (whole p.over over (over_polynomial k G p.over p.is_over)) p.spans)
 
-  pub split_at : (T : List (Vect k)) (j : ℕ) → j < length T → T ≡ take j T ++ listed k T j ∷ drop (suc j) T
-  split_at [] j l = absurd (omega arith)
-  split_at (t ∷ T) zero l = refl
-  split_at (t ∷ T) (suc j) l = ap (λ m. t ∷ m) (split_at T j (omega arith))
-
-  forms_remove : (ws es : List ℕ) (T : List (Vect k)) (j : ℕ) → AreForms k ws es T → AreForms k ws (take j es ++ drop (suc j) es) (take j T ++ drop (suc j) T)
-  forms_remove ws [] [] zero h = tt
-  forms_remove ws [] [] (suc j) h = tt
-  forms_remove ws [] (t ∷ T) j h = absurd h
-  forms_remove ws (e ∷ es) [] j h = absurd h
-  forms_remove ws (e ∷ es) (t ∷ T) zero h = h.1
-  forms_remove ws (e ∷ es) (t ∷ T) (suc j) h = (h.0, forms_remove ws es T j h.1)
-
   positive_both : (ds es : List ℕ) → AllPositive ds → AllPositive es → AllPositive (ds ++ es)
   positive_both [] es p q = q
   positive_both (d ∷ ds) es p q = (p.0, positive_both ds es p.1 q)
@@ -105,12 +92,6 @@ module _ {E : Type 0} (k : FieldOn E) where
   positive_remove [] (suc j) p = tt
   positive_remove (e ∷ es) zero p = p.1
   positive_remove (e ∷ es) (suc j) p = (p.0, positive_remove es j p.1)
-
-  height_drop : (es : List ℕ) (n j : ℕ) → n ≤ length es → height (drop n es) j ≡ height es (n + j)
-  unfolding height
-  height_drop es zero j l = let q : j ≡ 0 + j = omega arith in ap (height es) q
-  height_drop [] (suc n) j l = absurd (omega arith)
-  height_drop (e ∷ es) (suc n) j l = height_drop es n j (omega arith) ∙ sym (let q : suc n + j ≡ suc (n + j) = omega arith in ap (height (e ∷ es)) q)
 
   -- none is a polynomial in those before it
   abbrev pub AreNew : List (Vect k) → List (Vect k) → Type 0
@@ -126,13 +107,13 @@ module _ {E : Type 0} (k : FieldOn E) where
       let U = drop (suc l) T in
       let s = listed k T l in
       never_parted k G (unit k) U s
-      (λ b. new (take l T) s U (split_at T l inside) (over_polynomial k G s b))
+      (λ b. new (take l T) s U (split_at k T l inside) (over_polynomial k G s b))
       (λ j q b. new (take l T ++ s ∷ take j U) (listed k U j) (drop (suc j) U)
-      (split_at T l inside ∙ ap (λ u. take l T ++ s ∷ u) (split_at U j q) ∙ sym (append_assoc (take l T) (s ∷ take j U) _))
+      (split_at k T l inside ∙ ap (λ u. take l T ++ s ∷ u) (split_at k U j q) ∙ sym (append_assoc (take l T) (s ∷ take j U) _))
       (subst (λ l. IsPolynomialIn k l (listed k U j)) (append_assoc θ (take l T) (s ∷ take j U)) (over_polynomial k (G ++ s ∷ take j U) (listed k U j) (mixed_over k G (s ∷ take j U) (listed k U j) b))))
       (halves k G U o ws (ds ++ take l es) (drop (suc l) es)
       (subst (λ u. AreForms k ws u (G ++ U)) (sym (append_assoc ds (take l es) (drop (suc l) es)))
-      (subst (AreForms k ws (ds ++ (take l es ++ drop (suc l) es))) (sym (append_assoc θ (take l T) U)) (forms_append k ws ds (take l es ++ drop (suc l) es) θ (take l T ++ U) h (forms_remove ws es T l g))))
+      (subst (AreForms k ws (ds ++ (take l es ++ drop (suc l) es))) (sym (append_assoc θ (take l T) U)) (forms_append k ws ds (take l es ++ drop (suc l) es) θ (take l T ++ U) h (forms_remove k ws es T l g))))
       (length-append ds (take l es) ∙ ap₂ (λ x y. x + y) m (length-take-le l es (omega arith) ∙ sym (length-take-le l T (omega arith))) ∙ sym (length-append θ (take l T)))
       (subst AllPositive (sym (append_assoc ds (take l es) (drop (suc l) es))) (positive_both ds (take l es ++ drop (suc l) es) p (positive_remove es l r)))
       (height es l)

@@ -1,131 +1,57 @@
--- There is one word that is printed for a polynomial.
-use Rattle.std.proofs.Common.{◌≡◌, inl, inr, ℕ, ◌≤◌, List, [], ◌∷◌, ◌++◌, length, map, sym, ap, ap₂, ◌∙◌, refl, subst, arith}
+-- There is one word that is printed for a polynomial: it is the printed combination of 1.
+use Rattle.std.proofs.Common.{◌≡◌, ◌⊎◌, inl, inr, ℕ, ◌+◌, ◌<◌, List, [], ◌∷◌, ◌++◌, map, sym, ap, ap₂, ◌∙◌, refl, subst, arith}
 use Rattle.std.specs.declared.cmp.Ordering.TheVariants.{Less}
-use Rattle.alg_core.specs.CanonicalLists.{IsCanonical, AllBelow, terms, terms_canonical, class_terms}
-use Rattle.alg_core.specs.Fields.{FieldOn, Scalar, scalars, is_field}
-use Rattle.alg_core.specs.FormalSums.{FormalSum}
-use Rattle.alg_core.specs.FreeModules.{class, class_cons, class_nothing}
-use Rattle.alg_core.specs.KeyOrders.{OrderOn}
-use Rattle.alg_core.specs.Keys.{Key, key_same}
+use Rattle.alg_core.specs.Fields.{FieldOn}
+use Rattle.alg_core.specs.Keys.{Key}
 use Rattle.alg_core.specs.Lists.{In}
+use Rattle.alg_core.specs.SpaceGrading.{height}
 use Rattle.alg_core.specs.SpaceOrder.{key_order}
-use Rattle.alg_core.specs.Vectors.{Vect, vectors, coef_at, plus, zero_vector}
-use Rattle.alg_core.proofs.SpanLaws.{span_zero, span_add, span_act, span_minus, span_head, span_tail}
-use Rattle.alg_core.proofs.VectorLaws.{coef_at_ext, zero_plus}
+use Rattle.alg_core.specs.Vectors.{Vect}
 use Rattle.poly_module.specs.Choices.{IsSpannedBefore}
-use Rattle.poly_module.specs.Degrees.{graded_part, graded_part_zero, graded_part_supp, graded_part_graded, graded_part_inside}
+use Rattle.poly_module.specs.Combinations.{term_value}
 use Rattle.poly_module.specs.Echelons.{Spans}
-use Rattle.poly_module.specs.Forms.{AreForms, form_part, key_weight, part_substitute}
-use Rattle.poly_module.specs.Parts.{Supp}
-use Rattle.poly_module.specs.Polynomials.{single_vector}
-use Rattle.poly_module.specs.Signs.{minus}
-use Rattle.poly_module.specs.Substitutions.{substitute, substitute_single, substitute_zero, substitute_plus}
-use Rattle.poly_module.specs.Variables.{substitute_linear}
-use Rattle.poly_module.proofs.ModuleElements.{terms_supp}
-use Rattle.poly_module.proofs.SpaceVectorLaws.{minus_plus, minus_unique, supp_minus}
-use Rattle.secondary_gens.proofs.Lists.{forms_length}
-use Rattle.irreducible_gens.specs.Words.{word_space, word_value, IsMonomialBefore, IsPrintedWord}
+use Rattle.poly_module.specs.Forms.{AreForms, form_one}
+use Rattle.secondary_gens.specs.PrintedCombinations.{combination_space, IsTermBefore, IsPrintedCombination}
+use Rattle.secondary_gens.proofs.OnePrinted.{printed_unique}
+use Rattle.irreducible_gens.specs.Words.{word_value, IsMonomialBefore, IsPrintedWord}
+use Rattle.irreducible_gens.proofs.Generators.{unit, unit_term, unit_value}
 
-module _ {E : Type 0} (k : FieldOn E) (θ Q : List (Vect k)) where
+module _ {E : Type 0} (k : FieldOn E) (ds : List ℕ) (θ Q : List (Vect k)) where
   abbrev G : List (Vect k)
   G = θ ++ Q
 
-  abbrev value : Key → Vect k
-  value t = word_value k θ Q t
+  same_values : (ts : List Key) → ((s : Key) → In s ts → s.0 ≡ 0) → map (term_value k G (unit k)) ts ≡ map (word_value k θ Q) ts
+  same_values [] h = refl
+  same_values (t ∷ ts) h = ap₂ ◌∷◌ (unit_term k G t (h t (inl refl))) (same_values ts (λ s i. h s (inr i)))
 
-  abbrev keys_in : FormalSum (Scalar k) Key → List Key
-  keys_in l = map (λ e. e.0) l
-
-  -- the value of a sum of terms
-  sum_value : (e : Key × Scalar k) (l : FormalSum (Scalar k) Key) → substitute k G (class (scalars k) key_same (e ∷ l)) ≡ plus k ((vectors k).◌·◌ e.1 (value e.0)) (substitute k G (class (scalars k) key_same l))
-  unfolding plus single_vector
-  sum_value e l = ap (substitute k G) (class_cons (scalars k) key_same e l) ∙ (substitute_linear k G).add _ _
-      ∙ ap (λ v. (vectors k).◌+◌ v (substitute k G (class (scalars k) key_same l))) ((substitute_linear k G).act e.1 _ ∙ ap ((vectors k).◌·◌ e.1) (substitute_single k G e.0))
-
-  -- lies in the span of the values of their keys
-  value_in_span : (l : FormalSum (Scalar k) Key) → Spans k (map value (keys_in l)) (substitute k G (class (scalars k) key_same l))
-  unfolding plus zero_vector
-  value_in_span [] = subst (Spans k []) (sym (ap (substitute k G) (class_nothing (scalars k) key_same) ∙ substitute_zero k G)) (span_zero (vectors k) [])
-  value_in_span (e ∷ l) = subst (Spans k (map value (keys_in (e ∷ l)))) (sym (sum_value e l))
-      (span_add (vectors k) (map value (keys_in (e ∷ l))) _ _ (span_act (vectors k) (map value (keys_in (e ∷ l))) e.1 _ (span_head (vectors k) (value e.0) (map value (keys_in l))))
-      (span_tail (vectors k) (value e.0) (map value (keys_in l)) _ (value_in_span l)))
-
-  -- where a sum is 0, the value of its first key lies in the span of the others
-  first_spanned : (e : Key × Scalar k) (l : FormalSum (Scalar k) Key) → ¬ (e.1 ≡ (scalars k).zero) → substitute k G (class (scalars k) key_same (e ∷ l)) ≡ zero_vector k → Spans k (map value (keys_in l)) (value e.0)
-  unfolding minus plus zero_vector
-  first_spanned e l n z = subst (Spans k (map value (keys_in l))) back (span_act (vectors k) (map value (keys_in l)) ((is_field k).inverse e.1) v spanned)
+  -- at position 0 a term that comes before is a smaller monomial
+  smaller : (s t : Key) → t.0 ≡ 0 → IsTermBefore k ds (0 ∷ []) s t → IsMonomialBefore k ds s t
+  smaller s t z b = go b.before
     where
-      v : Vect k
-      v = (vectors k).◌·◌ e.1 (value e.0)
+      first : s.0 ≡ 0
+      first = let p = b.position in omega arith
 
-      w : Vect k
-      w = substitute k G (class (scalars k) key_same l)
+      go : (s.0 < t.0) ⊎ ((s.0 ≡ t.0) × ((key_order (combination_space k ds (0 ∷ []))).compare s t ≡ Less)) → IsMonomialBefore k ds s t
+      go (inl l) = absurd (omega arith)
+      go (inr e) = record { position = first; variables = b.variables; degree = degrees b.degree (ap (height (0 ∷ [])) (first ∙ sym z)); smaller = e.1 }
+        where
+          degrees : {a c m n : ℕ} → a + m ≡ c + n → m ≡ n → a ≡ c
+          degrees p q = omega arith
 
-      spanned : Spans k (map value (keys_in l)) v
-      spanned = subst (Spans k (map value (keys_in l))) (sym (minus_unique k v (zero_vector k) w (sym (sum_value e l) ∙ z)))
-          (span_add (vectors k) (map value (keys_in l)) _ _ (span_zero (vectors k) (map value (keys_in l))) (span_minus (vectors k) (map value (keys_in l)) w (value_in_span l)))
+  spanned : (t : Key) → t.0 ≡ 0 → IsSpannedBefore k (term_value k G (unit k)) (IsTermBefore k ds (0 ∷ [])) t → IsSpannedBefore k (word_value k θ Q) (IsMonomialBefore k ds) t
+  spanned t z a = (
+    a.0,
+    λ s i. smaller s t z (a.1 s i),
+    subst (Spans k (map (word_value k θ Q) a.0)) (unit_term k G t z)
+        (subst (λ l. Spans k l (term_value k G (unit k) t)) (same_values a.0 (λ s i. (smaller s t z (a.1 s i)).position)) a.2),
+  )
 
-      back : (vectors k).◌·◌ ((is_field k).inverse e.1) v ≡ value e.0
-      back = sym ((vectors k).mul_act _ e.1 (value e.0)) ∙ ap (λ d. (vectors k).◌·◌ d (value e.0)) ((scalars k).mul_comm _ e.1 ∙ (is_field k).mul_inverse e.1 n) ∙ (vectors k).one_act _
+  as_combination : (f u : Vect k) → IsPrintedWord k ds θ Q f u → IsPrintedCombination k ds (0 ∷ []) G (unit k) f u
+  as_combination f u h = record {
+    combination = λ t n. (h.word.variables t n, let p = h.word.polynomial t n in omega arith);
+    value = unit_value k G u h.word.polynomial ∙ h.value;
+    first = λ t n a. h.first t n (spanned t (h.word.polynomial t n) a);
+  }
 
-  module _ (vs ds : List ℕ) (h : AreForms k vs ds G) where
-    abbrev o : OrderOn Key
-    o = key_order (word_space k ds)
-
-    abbrev IsFirst : Key → Type 0
-    IsFirst t = ¬ IsSpannedBefore k value (IsMonomialBefore k ds) t
-
-    abbrev Fitting : ℕ → Key → Type 0
-    Fitting d t = (t.0 ≡ 0) × (length t.1.0 ≤ length G) × (key_weight ds t ≡ d)
-
-    below : (t : Key) (l : FormalSum (Scalar k) Key) → AllBelow (scalars k) (is_field k) key_same o t l → (s : Key) → In s (keys_in l) → (o.compare s t ≡ Less) × ((c : Scalar k) × In (s, c) l)
-    below t [] b s i = absurd i
-    below t (e ∷ l) b s (inl p) = (subst (λ r. o.compare r t ≡ Less) p b.0, (e.1, inl (ap (λ r. (r, e.1)) p)))
-    below t (e ∷ l) b s (inr i) = let r = below t l b.1 s i in (r.0, (r.1.0, inr r.1.1))
-
-    no_first : (d : ℕ) (l : FormalSum (Scalar k) Key) → IsCanonical (scalars k) (is_field k) key_same o l → ((e : Key × Scalar k) → In e l → Fitting d e.0 × IsFirst e.0)
-        → substitute k G (class (scalars k) key_same l) ≡ zero_vector k → l ≡ []
-    no_first d [] c f z = refl
-    no_first d (e ∷ l) c f z = absurd ((f e (inl refl)).1 (keys_in l, before, first_spanned e l c.0 z))
-      where
-        before : (s : Key) → In s (keys_in l) → IsMonomialBefore k ds s e.0
-        before s i =
-            let b = below e.0 l c.1 s i in
-            let own = (f (s, b.1.0) (inr b.1.1)).0 in
-            let first = (f e (inl refl)).0 in
-            record { position = own.0; variables = (let n = forms_length k vs ds G h in let m = own.1 in omega arith); degree = own.2 ∙ sym first.2; smaller = b.0 }
-
-    -- a part with the value 0 and first keys alone
-    no_part : (d : ℕ) (u : Vect k) → Supp k (λ t. (t.0 ≡ 0) × (length t.1.0 ≤ length G)) u → Supp k IsFirst u → substitute k G u ≡ zero_vector k → graded_part k (key_weight ds) d u ≡ zero_vector k
-    unfolding zero_vector
-    no_part d u places first z = sym (class_terms (scalars k) (is_field k) key_same o c) ∙ ap (class (scalars k) key_same) none ∙ class_nothing (scalars k) key_same
-      where
-        c : Vect k
-        c = graded_part k (key_weight ds) d u
-
-        l : FormalSum (Scalar k) Key
-        l = terms (scalars k) (is_field k) key_same o c
-
-        keys : Supp k (λ t. Fitting d t × IsFirst t) c
-        keys t n = let p = graded_part_supp k (key_weight ds) d (λ t. (t.0 ≡ 0) × (length t.1.0 ≤ length G)) u places t n in ((p.0, p.1, graded_part_graded k (key_weight ds) d u t n), graded_part_supp k (key_weight ds) d IsFirst u first t n)
-
-        zero_value : substitute k G c ≡ zero_vector k
-        zero_value = sym (part_substitute k vs ds G h d u (λ t n. (places t n).1)) ∙ ap (form_part k vs d) z ∙ graded_part_zero k (key_weight vs) d
-
-        none : l ≡ []
-        none = no_first d l (terms_canonical (scalars k) (is_field k) key_same o c) (λ e i. terms_supp k o (λ t. Fitting d t × IsFirst t) c keys e i) (ap (substitute k G) (class_terms (scalars k) (is_field k) key_same o c) ∙ zero_value)
-
-    no_word : (u : Vect k) → Supp k (λ t. (t.0 ≡ 0) × (length t.1.0 ≤ length G)) u → Supp k IsFirst u → substitute k G u ≡ zero_vector k → u ≡ zero_vector k
-    no_word u places first z = coef_at_ext k u (zero_vector k) (λ t. sym (graded_part_inside k (key_weight ds) (key_weight ds t) u t refl) ∙ ap (λ v. coef_at k v t) (no_part (key_weight ds t) u places first z))
-
-    pub one_word : (f u w : Vect k) → IsPrintedWord k ds θ Q f u → IsPrintedWord k ds θ Q f w → u ≡ w
-    unfolding plus zero_vector
-    one_word f u w a b = sym (minus_plus k u w) ∙ ap (λ v. plus k v w) none ∙ zero_plus k w
-      where
-        same : substitute k G (minus k u w) ≡ zero_vector k
-        same = minus_unique k (substitute k G (minus k u w)) (substitute k G u) (substitute k G w) (sym (substitute_plus k G (minus k u w) w) ∙ ap (substitute k G) (minus_plus k u w))
-            ∙ ap₂ (minus k) a.value b.value ∙ sym (minus_unique k (zero_vector k) f f (zero_plus k f))
-
-        none : minus k u w ≡ zero_vector k
-        none = no_word (minus k u w) (supp_minus k (λ t. (t.0 ≡ 0) × (length t.1.0 ≤ length G)) u w (λ t n. (a.word.polynomial t n, a.word.variables t n)) (λ t n. (b.word.polynomial t n, b.word.variables t n)))
-            (supp_minus k IsFirst u w a.first b.first) same
+  pub one_word : (ws : List ℕ) → AreForms k ws ds G → (f u w : Vect k) → IsPrintedWord k ds θ Q f u → IsPrintedWord k ds θ Q f w → u ≡ w
+  one_word ws h f u w a b = printed_unique k ws ds (0 ∷ []) G (unit k) h (form_one k ws, tt) f u w (as_combination f u a) (as_combination f w b)

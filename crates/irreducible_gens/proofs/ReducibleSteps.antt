@@ -2,19 +2,19 @@
 use Rattle.std.proofs.Common.{◌≡◌, ◌⊎◌, inl, inr, ℕ, suc, ◌+◌, ◌<◌, ◌≤◌, List, ◌++◌, length, get_or, take, drop, sym, ap, ◌∙◌, subst, arith}
 use Rattle.std.specs.Prelude.{All, remove}
 use Rattle.std.proofs.lemmas.Bool.{cases_lt}
-use Rattle.std.proofs.lemmas.List.{length-map}
+use Rattle.std.proofs.lemmas.List.{length-map, map-append}
 use Rattle.std.proofs.lemmas.List.Elements.{All-append, All-take, All-drop}
-use Rattle.alg_core.specs.Spaces.{SpaceOver}
+use Rattle.alg_core.specs.Spaces.{SpaceOver, entries}
 use Rattle.alg_core.specs.Vectors.{Vect}
 use Rattle.poly_module.specs.Echelons.{Spans}
 use Rattle.poly_module.specs.Forms.{IsForm}
 use Rattle.secondary_gens.specs.Eliminations.{Line, IsEchelonOf}
 use Rattle.secondary_gens.specs.Forms.{degree_of, unit_weights, IsPositiveForm}
 use Rattle.secondary_gens.proofs.FormDegrees.{vector_at}
-use Rattle.secondary_gens.proofs.OverSteps.{copied_vectors, removed_vectors}
+use Rattle.secondary_gens.proofs.OverSteps.{removed_vectors}
 use Rattle.irreducible_gens.specs.Algebras.{IsPolynomialIn, IsAlgebraEchelon}
 use Rattle.irreducible_gens.specs.Irreducibles.{IsReducible, AreNeeded, IsFirstReducible}
-use Rattle.irreducible_gens.proofs.UnitSteps.{Terms, x, xs, all_entries, copied_positives, joined_positive, joined_vectors}
+use Rattle.irreducible_gens.proofs.UnitSteps.{Terms, x, xs, all_entries, joined_positive, joined_vectors}
 
 module _ {E : Type 0} (S : SpaceOver E) (theta irr : List (Terms S)) where
   -- none of the first places
@@ -43,14 +43,20 @@ module _ {E : Type 0} (S : SpaceOver E) (theta irr : List (Terms S)) where
     first = h.none;
   }
 
+  -- copies of the other generators
+  pub turn_copies : (l : ℕ) (others generators : List (Terms S)) → all_entries S others ≡ all_entries S (remove irr l) → all_entries S generators ≡ all_entries S (theta ++ others)
+      → all_entries S generators ≡ all_entries S (theta ++ remove irr l)
+  turn_copies l others generators first copies =
+      copies ∙ map-append (entries (λ m. m)) theta others ∙ ap (λ v. all_entries S theta ++ v) first ∙ sym (map-append (entries (λ m. m)) theta (remove irr l))
+
   -- the generators of a turn
-  module _ (l : ℕ) (others generators : List (Terms S)) (first : all_entries S others ≡ all_entries S (remove irr l)) (copies : all_entries S generators ≡ all_entries S (theta ++ others)) where
+  module _ (l : ℕ) (generators : List (Terms S)) (copies : all_entries S generators ≡ all_entries S (theta ++ remove irr l)) where
     pub turn_positive : All (IsPositiveForm S) theta → All (IsPositiveForm S) irr → All (IsPositiveForm S) generators
-    turn_positive h g = joined_positive S theta others generators copies h (copied_positives S (remove irr l) others first
-        (All-append (IsPositiveForm S) (take l irr) (drop (suc l) irr) (All-take (IsPositiveForm S) l irr g) (All-drop (IsPositiveForm S) (suc l) irr g)))
+    turn_positive h g = joined_positive S theta (remove irr l) generators copies h
+        (All-append (IsPositiveForm S) (take l irr) (drop (suc l) irr) (All-take (IsPositiveForm S) l irr g) (All-drop (IsPositiveForm S) (suc l) irr g))
 
     turn_vectors : xs S generators ≡ xs S theta ++ remove (xs S irr) l
-    turn_vectors = joined_vectors S theta others generators copies ∙ ap (λ v. xs S theta ++ v) (copied_vectors S (remove irr l) others first ∙ removed_vectors S irr l)
+    turn_vectors = joined_vectors S theta (remove irr l) generators copies ∙ ap (λ v. xs S theta ++ v) (removed_vectors S irr l)
 
     module _ (p : Terms S) (inside : l < length irr) (read : p ≡ get_or irr l p) (d : ℕ) (ls : List (Line S.field)) (e : IsAlgebraEchelon S (xs S generators) d ls) where
       pub turn_reducible : ((vs : List (Vect S.field)) → IsEchelonOf S.field vs ls → Spans S.field vs (x S p)) → IsReducible S.field (xs S theta) (xs S irr) l

@@ -28,6 +28,22 @@ pub(crate) fn joined<E: Copy>(
     Ok(joined)
 }
 
+/// The generators of both lists, one after the other.
+pub(crate) fn all_generators<F: Field, O: TermOrder>(
+    alloc: Global,
+    _space: &Space<F, O>,
+    front: &[Poly<F::Elem>],
+    back: &[Poly<F::Elem>],
+) -> Result<Vec<Poly<F::Elem>>, Memory>
+    requires front { All (IsPositiveForm (over F.field O.order _space.now)) front.now }
+    requires back { All (IsPositiveForm (over F.field O.order _space.now)) back.now }
+    ensures positive { IfOk result (λ ps. All (IsPositiveForm (over F.field O.order _space.now)) ps.items) }
+    ensures copies { let a = map (entries (λ m. m)) in IfOk result (λ ps. a ps.items ≡ a (front.now ++ back.now)) }
+{
+    let joined = joined(alloc, front, back)?;
+    Ok(joined)
+}
+
 /// The rows of the values of all monomials of degree `d` in the generators. The products of generators that
 /// they need are added to `levels`.
 pub(crate) fn rows_in_degree<F: Field, O: TermOrder>(

@@ -6,10 +6,10 @@
 mod algebra;
 mod choice;
 mod laws;
+mod printing;
 mod reducible;
-mod words;
 
 pub use choice::choose;
 pub use laws::{algebras, chosen_places, printed_words};
+pub use printing::{word, words};
 pub use reducible::first_reducible;
-pub use words::word;

@@ -30,7 +30,7 @@ use Rattle.poly_module.proofs.OverSpans.{over_span}
 use Rattle.poly_module.proofs.SpaceVectorLaws.{minus_unique}
 use Rattle.secondary_gens.specs.PrintedCombinations.{combination_space}
 use Rattle.secondary_gens.specs.Secondaries.{IsIrredundant}
-use Rattle.secondary_gens.proofs.Lists.{listed_front, listed_in, over_more, over_in, forms_length, forms_at, weight_zero_is_one}
+use Rattle.secondary_gens.proofs.Lists.{listed_front, listed_in, over_more, over_in, forms_length, forms_at, forms_remove, height_drop, split_at, weight_zero_is_one}
 use Rattle.secondary_gens.proofs.ColumnSteps.{split_append}
 
 module _ {E : Type 0} (k : FieldOn E) (θ : List (Vect k)) where
@@ -209,33 +209,14 @@ module _ {E : Type 0} (k : FieldOn E) (θ : List (Vect k)) where
   keeps_fresh kept (x ∷ xs) all (inl h) f = keeps_fresh kept xs all h.1 f
   keeps_fresh kept (x ∷ xs) all (inr h) f = keeps_fresh (kept ++ x ∷ []) xs all h.1 (fresh_push kept x f h.0)
 
-  split_at : (T : List (Vect k)) (j : ℕ) → j < length T → T ≡ take j T ++ listed k T j ∷ drop (suc j) T
-  split_at [] j l = absurd (omega arith)
-  split_at (t ∷ T) zero l = refl
-  split_at (t ∷ T) (suc j) l = ap (λ m. t ∷ m) (split_at T j (omega arith))
-
-  forms_remove : (ws es : List ℕ) (T : List (Vect k)) (j : ℕ) → AreForms k ws es T → AreForms k ws (take j es ++ drop (suc j) es) (take j T ++ drop (suc j) T)
-  forms_remove ws [] [] zero h = tt
-  forms_remove ws [] [] (suc j) h = tt
-  forms_remove ws [] (t ∷ T) j h = absurd h
-  forms_remove ws (d ∷ ds) [] j h = absurd h
-  forms_remove ws (d ∷ ds) (t ∷ T) zero h = h.1
-  forms_remove ws (d ∷ ds) (t ∷ T) (suc j) h = (h.0, forms_remove ws ds T j h.1)
-
-  height_drop : (es : List ℕ) (n j : ℕ) → n ≤ length es → height (drop n es) j ≡ height es (n + j)
-  unfolding height
-  height_drop es zero j l = let q : j ≡ 0 + j = omega arith in ap (height es) q
-  height_drop [] (suc n) j l = absurd (omega arith)
-  height_drop (e ∷ es) (suc n) j l = height_drop es n j (omega arith) ∙ sym (let q : suc n + j ≡ suc (n + j) = omega arith in ap (height (e ∷ es)) q)
-
   -- none is a combination over the others
   pub irredundant : (o : OrderOn Key) (ws ds : List ℕ) → AreForms k ws ds θ → AllPositive ds → (es : List ℕ) (T : List (Vect k)) → AreForms k ws es T
       → ((i j : ℕ) → i ≤ j → j < length es → height es i ≤ height es j) → AreFresh T → IsIrredundant k θ T
   irredundant o ws ds h positive es T g rise fresh j l a =
       let n = forms_length k ws es T g in
-      never_parted (take j T) (drop (suc j) T) (listed k T j) (fresh _ _ _ (split_at T j l))
+      never_parted (take j T) (drop (suc j) T) (listed k T j) (fresh _ _ _ (split_at k T j l))
       (λ m q. fresh (take j T ++ listed k T j ∷ take m (drop (suc j) T)) (listed k (drop (suc j) T) m) (drop (suc m) (drop (suc j) T))
-      (split_at T j l ∙ ap (λ u. take j T ++ listed k T j ∷ u) (split_at (drop (suc j) T) m q) ∙ sym (append_assoc (take j T) (listed k T j ∷ take m (drop (suc j) T)) _)))
-      (parted_of o ws ds h positive (take j T) (drop (suc j) T) (listed k T j) (take j es) (drop (suc j) es) (height es j) (forms_remove ws es T j g)
+      (split_at k T j l ∙ ap (λ u. take j T ++ listed k T j ∷ u) (split_at k (drop (suc j) T) m q) ∙ sym (append_assoc (take j T) (listed k T j ∷ take m (drop (suc j) T)) _)))
+      (parted_of o ws ds h positive (take j T) (drop (suc j) T) (listed k T j) (take j es) (drop (suc j) es) (height es j) (forms_remove k ws es T j g)
       (length-take-le j es (omega arith) ∙ sym (length-take-le j T (omega arith))) (forms_at k ws es T g j l)
       (λ i q. let d = length-drop (suc j) T in subst (λ m. height es j ≤ m) (sym (height_drop es (suc j) i (omega arith))) (rise j (suc j + i) (omega arith) (omega arith))) a)

@@ -24,3 +24,4 @@ pub mod SecondaryLaws
 pub mod OnePrinted
 pub mod SecondaryDegrees
 pub mod SomePrinted
+pub mod CombinedSteps

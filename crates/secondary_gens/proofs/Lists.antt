@@ -1,5 +1,5 @@
 -- Lists of vectors and of degrees with members at their end; combinations over longer lists.
-use Rattle.std.proofs.Common.{◌≡◌, inl, inr, ℕ, zero, suc, ◌+◌, ◌*◌, ◌<◌, List, [], ◌∷◌, ◌++◌, length, sym, ap, ◌∙◌, refl, subst, arith}
+use Rattle.std.proofs.Common.{◌≡◌, inl, inr, ℕ, zero, suc, ◌+◌, ◌*◌, ◌<◌, ◌≤◌, List, [], ◌∷◌, ◌++◌, length, take, drop, sym, ap, ◌∙◌, refl, subst, arith}
 use Rattle.std.proofs.lemmas.List.{length-append}
 use Rattle.alg_core.specs.Fields.{FieldOn}
 use Rattle.alg_core.specs.Lists.{In}
@@ -47,6 +47,21 @@ module _ {E : Type 0} (k : FieldOn E) where
   forms_push ws [] (t ∷ T) d b h f = absurd h
   forms_push ws (e ∷ es) [] d b h f = absurd h
   forms_push ws (e ∷ es) (t ∷ T) d b h f = (h.0, forms_push ws es T d b h.1 f)
+
+  -- the list at one of its members
+  pub split_at : (T : List (Vect k)) (j : ℕ) → j < length T → T ≡ take j T ++ listed k T j ∷ drop (suc j) T
+  split_at [] j l = absurd (omega arith)
+  split_at (t ∷ T) zero l = refl
+  split_at (t ∷ T) (suc j) l = ap (λ m. t ∷ m) (split_at T j (omega arith))
+
+  -- forms without one of them
+  pub forms_remove : (ws es : List ℕ) (T : List (Vect k)) (j : ℕ) → AreForms k ws es T → AreForms k ws (take j es ++ drop (suc j) es) (take j T ++ drop (suc j) T)
+  forms_remove ws [] [] zero h = tt
+  forms_remove ws [] [] (suc j) h = tt
+  forms_remove ws [] (t ∷ T) j h = absurd h
+  forms_remove ws (d ∷ ds) [] j h = absurd h
+  forms_remove ws (d ∷ ds) (t ∷ T) zero h = h.1
+  forms_remove ws (d ∷ ds) (t ∷ T) (suc j) h = (h.0, forms_remove ws ds T j h.1)
 
   pub forms_length : (ws es : List ℕ) (T : List (Vect k)) → AreForms k ws es T → length es ≡ length T
   forms_length ws [] [] h = refl
@@ -130,3 +145,10 @@ divides_variable m i h = (
       let s = exponent_less m.0 i h j in
       omega arith),
 )
+
+-- the heights of the last members
+pub height_drop : (es : List ℕ) (n j : ℕ) → n ≤ length es → height (drop n es) j ≡ height es (n + j)
+unfolding height
+height_drop es zero j l = let q : j ≡ 0 + j = omega arith in ap (height es) q
+height_drop [] (suc n) j l = absurd (omega arith)
+height_drop (e ∷ es) (suc n) j l = height_drop es n j (omega arith) ∙ sym (let q : suc n + j ≡ suc (n + j) = omega arith in ap (height (e ∷ es)) q)

@@ -5,3 +5,5 @@ pub mod PrintedCombinations
 pub mod Eliminations
 pub mod Columns
 pub mod Choices
+pub mod Lists
+pub mod Combined

@@ -1,35 +1,35 @@
-ghost use Rattle.std.specs.Prelude.{◌≡◌, List, All, IfOk, IfNone, IfSome, length, map};
+ghost use Rattle.std.specs.Prelude.{◌≡◌, ◌≤◌, List, All, IfOk, length, map};
 ghost use Rattle.alg_core.specs.DpOrder.{dp_order};
 ghost use Rattle.alg_core.specs.Fields.{Has, scalar};
 ghost use Rattle.alg_core.specs.Keys.{key};
 ghost use Rattle.alg_core.specs.Spaces.{over, place, IsPlace};
 ghost use Rattle.alg_core.specs.Spans.{combine};
 ghost use Rattle.alg_core.specs.Vectors.{Vect, vectors};
-ghost use Rattle.poly_module.specs.Combinations.{Over, term_value, combination_value};
+ghost use Rattle.poly_module.specs.Combinations.{term_value, combination_value};
 ghost use Rattle.poly_module.specs.Polynomials.{single_vector};
 ghost use Rattle.poly_module.specs.Signs.{minus};
 ghost use Rattle.poly_module.specs.SpaceVectors.{vector_of, vectors_of, IsVector, AreVectors, IsPoly, HasPolynomials};
-ghost use Rattle.secondary_gens.specs.Columns.{keys_of};
+ghost use Rattle.secondary_gens.specs.Columns.{AreLevels, keys_of};
+ghost use Rattle.secondary_gens.specs.Combined.{IsEliminated};
 ghost use Rattle.secondary_gens.specs.Eliminations.{IsEchelonOf, IsTracked, IsRowOver, lines_of};
 ghost use Rattle.secondary_gens.specs.Forms.{degrees_of, IsSmallForm, IsPositiveForm};
-ghost use Rattle.secondary_gens.specs.PrintedCombinations.{combination_space, IsPrintedCombination};
+ghost use Rattle.secondary_gens.specs.PrintedCombinations.{combination_space};
 
 use crate::columns::{Column, columns};
-use crate::degrees::{degree, degrees};
 use crate::elimination::{Row, reduce, row_of};
 use alg_core::{Dp, Field, Grading, Memory, ModTerm, Mono, Space, Term, TermOrder};
-use poly_module::{Comb, Poly, Vector, add, scale, single, sub};
+use poly_module::{Poly, Vector, add, scale, single, sub};
 use std::alloc::Global;
 
 /// The rows of an elimination, and for each the combination whose value it is.
 #[derive(Drop)]
 pub(crate) struct Tracked<E> {
-    rows: Vec<Row<E>>,
-    combinations: Vec<Poly<E>>,
+    pub(crate) rows: Vec<Row<E>>,
+    pub(crate) combinations: Vec<Poly<E>>,
 }
 
 /// The space of combinations over primary invariants and polynomials of these degrees.
-fn marks<F: Field>(
+pub(crate) fn marks<F: Field>(
     alloc: Global,
     field: F,
     order: Dp,
@@ -37,6 +37,8 @@ fn marks<F: Field>(
 ) -> Result<Space<F, Dp>, Memory>
     ensures space { IfOk result (λ s. over F.field (λ o. dp_order o.weights.items) s
         ≡ combination_space (F.field field) order.weights.items shifts.items) }
+    ensures weights { IfOk result (λ s. s.order.weights.items ≡ order.weights.items) }
+    ensures shifts { IfOk result (λ s. s.grading.shifts.items ≡ shifts.items) }
 {
     let weights = Vec::from_slice(alloc, order.weights.as_slice())?;
     let grading = Grading { weights, shifts };
@@ -48,7 +50,7 @@ fn marks<F: Field>(
 }
 
 /// The sum of the multiples of combinations by the factors.
-fn combined<F: Field>(
+pub(crate) fn combined<F: Field>(
     alloc: Global,
     marks: &Space<F, Dp>,
     factors: &[F::Elem],
@@ -146,43 +148,34 @@ fn eliminate<F: Field, O: TermOrder>(
     Ok(Tracked { rows, combinations })
 }
 
-/// The combination that is printed for f: of all whose value is f the one in which no term has a value in the
-/// span of the values of the terms of its degree before it. Terms stand by rising position, those at one
-/// position by rising monomial. None exactly where f is no combination over the primary and the
-/// secondary invariants.
-pub fn combine<F: Field, O: TermOrder>(
+/// The elimination of the terms of degree `d`. The products of primary invariants that it needs are added to
+/// `levels`.
+pub(crate) fn eliminate_degree<F: Field, O: TermOrder>(
     alloc: Global,
     space: &Space<F, O>,
+    marks: &Space<F, Dp>,
     theta: &[Poly<F::Elem>],
     secs: &[Poly<F::Elem>],
-    f: &Poly<F::Elem>,
-) -> Result<Option<Comb<F::Elem>>, Memory>
+    levels: &mut Vec<Vec<Column<F::Elem>>>,
+    d: u32,
+) -> Result<Tracked<F::Elem>, Memory>
     requires polynomials { HasPolynomials (over F.field O.order space.now) }
     requires primaries { All (IsPositiveForm (over F.field O.order space.now)) theta.now }
     requires secondaries { All (IsSmallForm (over F.field O.order space.now)) secs.now }
-    requires form { IsSmallForm (over F.field O.order space.now) f.now }
-    ensures none { let S = over F.field O.order space.now in let x = vectors_of S (λ m. m) in
-        IfOk result (λ o. IfNone o (¬ Over S.field (x theta.now) (x secs.now) (vector_of S (λ m. m) f.now))) }
-    ensures fits { let C = combination_space (F.field space.now.field) (degrees_of theta.now) (degrees_of secs.now) in
-        IfOk result (λ o. IfSome o (λ c. IsVector C (λ m. m) c.vector)) }
-    ensures printed { let S = over F.field O.order space.now in let x = vectors_of S (λ m. m) in
-        IfOk result (λ o. IfSome o (λ c. IsPrintedCombination S.field (degrees_of theta.now) (degrees_of secs.now)
-        (x theta.now) (x secs.now) (vector_of S (λ m. m) f.now) (vector_of S (λ m. m) c.vector))) }
+    requires degree { d ≤ 12288 }
+    requires weights { marks.now.order.weights.items ≡ degrees_of theta.now }
+    requires shifts { marks.now.grading.shifts.items ≡ degrees_of secs.now }
+    requires marks { over F.field (λ o. dp_order o.weights.items) marks.now
+        ≡ combination_space (F.field space.now.field) (degrees_of theta.now) (degrees_of secs.now) }
+    requires levels { let S = over F.field O.order space.now in
+        AreLevels S (vectors_of S (λ m. m) theta.now) (degrees_of theta.now) (map (λ l. l.items) levels.old.items) }
+    ensures levels { let S = over F.field O.order space.now in IfOk result (λ _.
+        AreLevels S (vectors_of S (λ m. m) theta.now) (degrees_of theta.now) (map (λ l. l.items) levels.new.items)) }
+    ensures eliminated { IfOk result (λ t.
+        IsEliminated (over F.field O.order space.now) theta.now secs.now d t.rows.items t.combinations.items) }
 {
-    let order = Dp {
-        weights: degrees(alloc, space, theta)?,
-    };
-    let shifts = degrees(alloc, space, secs)?;
-    let d = degree(space, f);
-    let mut levels = Vec::new(alloc);
-    let columns = columns(alloc, space, &order, theta, &mut levels, secs, &shifts, d)?;
-    let marks = marks(alloc, space.field, order, shifts)?;
-    let tracked = eliminate(alloc, space, &marks, columns.as_slice())?;
-    let reduced = reduce(alloc, space, tracked.rows.as_slice(), f)?;
-    if !reduced.rest.terms().is_empty() {
-        return Ok(None);
-    }
-    let factors = reduced.factors.as_slice();
-    let vector = combined(alloc, &marks, factors, tracked.combinations.as_slice())?;
-    Ok(Some(Comb { vector }))
+    let shifts = marks.grading.shifts.as_slice();
+    let columns = columns(alloc, space, &marks.order, theta, levels, secs, shifts, d)?;
+    let tracked = eliminate(alloc, space, marks, columns.as_slice())?;
+    Ok(tracked)
 }

@@ -5,6 +5,7 @@
 mod choice;
 pub mod columns;
 mod combination;
+pub mod combinations;
 pub mod degrees;
 pub mod elimination;
 mod keeping;
@@ -13,6 +14,6 @@ mod products;
 pub mod redundance;
 
 pub use choice::choose;
-pub use combination::combine;
+pub use combinations::{combine, combine_all};
 pub use laws::{kept_lists, printed_combinations, secondary_invariants};
 pub use redundance::first_redundant;

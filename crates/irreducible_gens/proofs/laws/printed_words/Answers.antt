@@ -7,4 +7,4 @@ use Rattle.irreducible_gens.proofs.laws.printed_words.Goals as goal
 pub returns : goal.returns
 returns g c =
     let S = over g.F.Field.field g.O.TermOrder.order c.args._space.now in
-    record { one = λ ws ds es θ Q h j f u w a b. one_word S.field θ Q ws (ds ++ es) (forms_append S.field ws ds es θ Q h j) f u w a b }
+    record { one = λ ws ds es θ Q h j f u w a b. one_word S.field (ds ++ es) θ Q ws (forms_append S.field ws ds es θ Q h j) f u w a b }

@@ -23,7 +23,7 @@ add_columns-requires-clause-level g c =
     let m = length-map c.extend.new.levels.items (λ v. v.items) in
     let count : c.args.d < length (map (λ v. v.items) c.extend.new.levels.items) = omega (arith, c.in_ok-extend.ensures.count) in
     let at : c.args.d - n < length c.extend.new.levels.items = omega (arith, c.in_ok-extend.ensures.count) in
-    column_polynomials S c.args.theta.now c.args.polynomials.now (map (λ v. v.items) c.extend.new.levels.items) c.in_ok-extend.ensures.levels c.args.d count c.requires.degree c.loop-j.j c.loop-j-test.true n degree c.if-degree-d.true c.as_slice-level.result.now (c.as_slice-level.ensures.value ∙ read_map (λ v. v.items) c.extend.new.levels.items (c.args.d - n) c.index.result.now [] at c.index.ensures)
+    column_polynomials S c.args.theta.now c.args.polynomials.now (map (λ v. v.items) c.extend.new.levels.items) c.in_ok-extend.ensures.levels c.args.d count c.requires.degree c.loop-j.j c.loop-j-test.true n degree (omega (arith, c.if-degree-d.true)) c.as_slice-level.result.now (c.as_slice-level.ensures.value ∙ read_map (λ v. v.items) c.extend.new.levels.items (c.args.d - n) c.index.result.now [] at c.index.ensures)
 
 pub add_columns-requires-clause-room : goal.add_columns-requires-clause-room
 add_columns-requires-clause-room g c =
@@ -33,7 +33,7 @@ add_columns-requires-clause-room g c =
     let m = length-map c.extend.new.levels.items (λ v. v.items) in
     let count : c.args.d < length (map (λ v. v.items) c.extend.new.levels.items) = omega (arith, c.in_ok-extend.ensures.count) in
     let at : c.args.d - n < length c.extend.new.levels.items = omega (arith, c.in_ok-extend.ensures.count) in
-    column_room S c.args.theta.now c.args.polynomials.now (map (λ v. v.items) c.extend.new.levels.items) c.in_ok-extend.ensures.levels c.args.d count c.requires.degree c.loop-j.j c.loop-j-test.true n degree c.if-degree-d.true c.as_slice-level.result.now (c.as_slice-level.ensures.value ∙ read_map (λ v. v.items) c.extend.new.levels.items (c.args.d - n) c.index.result.now [] at c.index.ensures) c.index-polynomials-j.result c.index-polynomials-j.is c.requires.forms
+    column_room S c.args.theta.now c.args.polynomials.now (map (λ v. v.items) c.extend.new.levels.items) c.in_ok-extend.ensures.levels c.args.d count c.requires.degree c.loop-j.j c.loop-j-test.true n degree (omega (arith, c.if-degree-d.true)) c.as_slice-level.result.now (c.as_slice-level.ensures.value ∙ read_map (λ v. v.items) c.extend.new.levels.items (c.args.d - n) c.index.result.now [] at c.index.ensures) c.index-polynomials-j.result c.index-polynomials-j.is c.requires.forms
 
 pub loop-j-preserved : goal.loop-j-preserved
 loop-j-preserved g c =
@@ -47,7 +47,7 @@ loop-j-preserved g c =
       | then-degree-d+in_ok-add_columns w ↦
           let at : c.args.d - n < length c.extend.new.levels.items = omega (arith, c.in_ok-extend.ensures.count) in
           subst (λ v. IsColumnPart S (x c.args.theta.now) (degrees_of c.args.theta.now) (x c.args.polynomials.now) (degrees_of c.args.polynomials.now) c.args.d (c.loop-j.j + 1) v.items) (sym w.columns-is)
-          (column_more S c.args.theta.now c.args.polynomials.now (map (λ v. v.items) c.extend.new.levels.items) c.in_ok-extend.ensures.levels c.args.d count c.requires.degree c.loop-j.j c.loop-j-test.true n degree w.if-degree-d.true w.as_slice-level.result.now (w.as_slice-level.ensures.value ∙ read_map (λ v. v.items) c.extend.new.levels.items (c.args.d - n) w.index.result.now [] at w.index.ensures) w.index-polynomials-j.result w.index-polynomials-j.is c.requires.forms
+          (column_more S c.args.theta.now c.args.polynomials.now (map (λ v. v.items) c.extend.new.levels.items) c.in_ok-extend.ensures.levels c.args.d count c.requires.degree c.loop-j.j c.loop-j-test.true n degree (omega (arith, w.if-degree-d.true)) w.as_slice-level.result.now (w.as_slice-level.ensures.value ∙ read_map (λ v. v.items) c.extend.new.levels.items (c.args.d - n) w.index.result.now [] at w.index.ensures) w.index-polynomials-j.result w.index-polynomials-j.is c.requires.forms
           c.loop-j.columns.items w.add_columns.new.columns.items w.in_ok-add_columns.ensures.polynomials w.in_ok-add_columns.ensures.wide w.in_ok-add_columns.ensures.keys w.in_ok-add_columns.ensures.values c.loop-j.invariant)
       | else-degree-d w ↦
           subst (λ v. IsColumnPart S (x c.args.theta.now) (degrees_of c.args.theta.now) (x c.args.polynomials.now) (degrees_of c.args.polynomials.now) c.args.d (c.loop-j.j + 1) v.items) (sym w.columns-is)

@@ -4,17 +4,11 @@ use Rattle.alg_core.specs.Spaces.{over}
 use Rattle.poly_module.specs.SpaceVectors.{vector_of, vectors_of, IsVector, IsPoly}
 use Rattle.poly_module.specs.Combinations.{Over}
 use Rattle.secondary_gens.specs.PrintedCombinations.{combination_space, IsPrintedCombination}
-use Rattle.secondary_gens.specs.Forms.{degrees_of, IsSmallForm, IsPositiveForm}
+use Rattle.secondary_gens.specs.Forms.{degrees_of, IsSmallForm}
 use Rattle.irreducible_gens.specs.Words.{word_space}
-use Rattle.irreducible_gens.proofs.UnitSteps.{pushed_one, one_small, one_vectors, one_degrees, joined_positive, joined_vectors, joined_degrees}
+use Rattle.irreducible_gens.proofs.UnitSteps.{pushed_one, one_small, one_vectors, one_degrees, joined_vectors, joined_degrees}
 use Rattle.irreducible_gens.proofs.WordSteps.{word_fits, printed_word_at, no_word_at}
-use Rattle.irreducible_gens.proofs.words.word.Goals as goal
-
-pub combine-requires-clause-primaries : goal.combine-requires-clause-primaries
-combine-requires-clause-primaries g c =
-    let S = over g.F.Field.field g.O.TermOrder.order c.args.space.now in
-    subst (All (IsPositiveForm S)) (sym c.as_slice.ensures.value)
-    (joined_positive S c.args.theta.now c.args.irr.now c.in_ok-generators.generators.items c.in_ok-generators.ensures.copies c.requires.primaries c.requires.irreducibles)
+use Rattle.irreducible_gens.proofs.printing.word.Goals as goal
 
 pub combine-requires-clause-secondaries : goal.combine-requires-clause-secondaries
 combine-requires-clause-secondaries g c =
