@@ -4,3 +4,5 @@ pub mod ColonGenerators
 pub mod ColonBases
 pub mod SecondParts
 pub mod NonzerodivisorSteps
+pub mod PowerBounds
+pub mod ExponentSteps

@@ -1,2 +1,3 @@
 pub mod IdealBases
 pub mod Colons
+pub mod Exponents
