@@ -1,10 +1,9 @@
 -- The combination of the members of a basis with given digits, member by member.
 use Rattle.std.proofs.Common.{◌≡◌, ◌∙◌, ◌+◌, ◌<◌, ◌≤◌, ℕ, List, [], ◌∷◌, ◌++◌, length, map, get_or, take, sym, ap, ap₂, subst, arith}
-use Rattle.std.specs.Prelude.{All}
 use Rattle.std.proofs.lemmas.List.{take_more, take_all, map-append, length-map, length-take-le}
 use Rattle.alg_core.specs.Fields.{FieldOn, Scalar, scalar}
 use Rattle.alg_core.specs.ModuleLaws as modules
-use Rattle.alg_core.specs.Spaces.{SpaceOver, Fits, entries}
+use Rattle.alg_core.specs.Spaces.{SpaceOver}
 use Rattle.alg_core.specs.Spans.{combine}
 use Rattle.alg_core.specs.Vectors.{Vect, vectors, plus, scale, zero_vector}
 use Rattle.alg_core.specs.declared.term.Term.{Term}

@@ -1,2 +1,16 @@
-pub mod CombinationSteps
+pub mod CandidateLaws
 pub mod Carries
+pub mod CombinationSteps
+pub mod ComingSteps
+pub mod DigitLaws
+pub mod DigitSteps
+pub mod EndLaws
+pub mod EndedLaws
+pub mod FirstLaws
+pub mod LeadPowerSteps
+pub mod NumbersAbove
+pub mod OfferSteps
+pub mod SearchSteps
+pub mod TakenLaws
+pub mod UniqueLaws
+pub mod WalkSteps

@@ -2,6 +2,12 @@
 #![tactic(auto)]
 
 mod candidates;
+mod ended;
 mod fault;
+mod laws;
+mod primaries;
+mod walk;
 
 pub use fault::SearchFault;
+pub use laws::{first_primaries, search_ends};
+pub use primaries::search;

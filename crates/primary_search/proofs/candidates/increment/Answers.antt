@@ -1,4 +1,4 @@
-use Rattle.std.proofs.Common.{◌≡◌, ◌+◌, ◌<◌, ◌≤◌, length, get_or, slice_set, ◌∙◌, subst, suc, arith}
+use Rattle.std.proofs.Common.{◌≡◌, ◌+◌, ◌<◌, length, get_or, slice_set, ◌∙◌, subst, suc, arith}
 use Rattle.primary_search.proofs.Carries.{Carried, carried_length, carried_digits, set_digits, carried_more, carried_done, set_rest, carried_rest, carried_zeros, carried_all}
 use Rattle.primary_search.proofs.candidates.increment.Goals as goal
 
