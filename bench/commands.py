@@ -10,6 +10,7 @@ import statistics
 import subprocess
 import sys
 import tempfile
+import threading
 import time
 
 TOP = os.path.dirname(os.path.dirname(os.path.abspath(__file__)))
@@ -29,12 +30,20 @@ def swaps(pairs):
 # Signs and permutations of two blocks of four: 2^8 times 32 elements.
 BLOCKS = [images(range(8), [0]), images([1, 2, 3, 0, 4, 5, 6, 7]), images([4, 5, 6, 7, 0, 1, 2, 3])]
 SHIFT = images([1, 2, 0])
+# Transvections generate Sp4 over GF(2), here one of them and a product of five; SL2 over the field of 4 elements acts on its pairs.
+SP4 = [list("1001010000100001"), list("0001001101001100")]
+SL2 = [list("0010000110000100"), list("1010010100100001"), list("0100110000110010")]
+MANUAL = [["0", "1", "0", "-1", "0", "0", "0", "0", "-1"]]
 CASES = [
     ("swap of two over GF(2), degree 2", 2, [swaps(1)], ["basis", "2"]),
     ("shift of three over GF(3), degree 30", 3, [SHIFT], ["basis", "30"]),
     ("shift of three over GF(3), degree 61", 3, [SHIFT], ["basis", "61"]),
     ("four swaps over GF(2), degree 4", 2, [swaps(4)], ["basis", "4"]),
     ("order 8192 in size 8 over GF(3)", 3, BLOCKS, ["order"]),
+    ("primaries of finvar's manual, GF(3)", 3, MANUAL, ["primary"]),
+    ("primaries of two swaps over GF(2)", 2, [swaps(2)], ["primary"]),
+    ("primaries of Sp4 over GF(2)", 2, SP4, ["primary"]),
+    ("primaries of SL2(F4) over GF(2)", 2, SL2, ["primary"]),
 ]
 
 
@@ -52,14 +61,17 @@ def script(p, matrices):
     return f"ring R={p},({','.join(names_of(matrices))}),dp; {declared(matrices)}"
 
 
-def run(words, text):
-    """One run: seconds, peak of memory in MB, lines of output."""
+def run(words, text, longest=120):
+    """One run: seconds, peak of memory in MB, lines of output. None where it failed or took longer, in seconds."""
     with tempfile.TemporaryFile() as given, tempfile.TemporaryFile() as out:
         given.write(text.encode())
         given.seek(0)
         begun = time.perf_counter()
         child = subprocess.Popen(words, stdin=given, stdout=out, stderr=subprocess.DEVNULL)
+        stop = threading.Timer(longest, child.kill)
+        stop.start()
         _, status, usage = os.wait4(child.pid, 0)
+        stop.cancel()
         seconds = time.perf_counter() - begun
         out.seek(0)
         lines = out.read().count(b"\n")
@@ -70,10 +82,14 @@ def run(words, text):
 
 def singular(p, matrices, words):
     """The same task for Singular, or None where it has no procedure for it."""
-    if words[0] != "basis":
-        return None
     gens = ",".join(f"M{i}" for i in range(len(matrices)))
-    return f'LIB "finvar.lib"; {script(p, matrices)} ideal B=invariant_basis({words[1]},{gens}); size(B); quit;'
+    if words[0] == "basis":
+        task = f"ideal B=invariant_basis({words[1]},{gens}); size(B);"
+    elif words[0] == "primary":
+        task = f"list L=primary_invariants({gens}); L[1];"
+    else:
+        return None
+    return f'LIB "finvar.lib"; {script(p, matrices)} {task} quit;'
 
 
 def main():
@@ -92,8 +108,9 @@ def main():
         task = singular(p, matrices, words)
         ratio = "no such task" if task is None else "not installed"
         if other and task:
-            theirs = [run([other, "-q"], task) for _ in range(runs)]
-            ratio = "failed" if None in theirs else f"{min(t[0] for t in theirs) / least:.1f}"
+            first = run([other, "-q"], task)
+            theirs = [first] + [run([other, "-q"], task) for _ in range(runs - 1) if first]
+            ratio = "failed or 120 s" if None in theirs else f"{min(t[0] for t in theirs) / least:.1f}"
         median = statistics.median(g[0] for g in got)
         print(f"{name:<40} {least:8.3f} {median:9.3f} {max(g[1] for g in got):6.0f} {got[0][2]:6d} {ratio:>14}")
 

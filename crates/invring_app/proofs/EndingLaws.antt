@@ -20,13 +20,14 @@ use Rattle.poly_text.specs.declared.names.Names.{Names}
 use Rattle.invariant_space.specs.InvariantSpaces.{IsInvariantForm, IsEchelonBasis}
 use Rattle.invariant_space.proofs.EchelonBasis.{echelon_basis_unique}
 use Rattle.finvar_text.specs.Problems.{Problem, variable_count}
-use Rattle.invring_app.specs.Commands.Bases.{IsSpaceOf, AreMatricesOf, AreNamesOf, lines, IsBasisText}
+use Rattle.invring_app.specs.Commands.Bases.{IsSpaceOf, AreMatricesOf, AreNamesOf, IsBasisText}
+use Rattle.invring_app.specs.Lines.{polynomial_lines}
 use Rattle.invring_app.specs.Commands.Orders.{IsOrderOf, IsOverOrderOf}
 
-field-one : (p : ℕ) (k l : FieldOn ℕ) → IsPrimeField p k → IsPrimeField p l → k ≡ l
+pub field-one : (p : ℕ) (k l : FieldOn ℕ) → IsPrimeField p k → IsPrimeField p l → k ≡ l
 field-one p k l h g = h.1 ∙ gfp_same p p refl h.0 g.0 ∙ sym g.1
 
-space-one : (q : Problem) (S T : SpaceOver ℕ) → IsSpaceOf q S → IsSpaceOf q T → S ≡ T
+pub space-one : (q : Problem) (S T : SpaceOver ℕ) → IsSpaceOf q S → IsSpaceOf q T → S ≡ T
 space-one q S T h g =
     let field = field-one q.characteristic S.field T.field h.field g.field in
     let order = h.order ∙ sym g.order in
@@ -36,10 +37,10 @@ space-one q S T h g =
 
 -- matrices with the same cells have the same invariants
 
-abbrev Shape : Type 0
+abbrev pub Shape : Type 0
 Shape = ℕ × ℕ × List ℕ
 
-abbrev shape : Matrix ℕ → Shape
+abbrev pub shape : Matrix ℕ → Shape
 shape m = (m.rows, m.cols, m.cells.items)
 
 same-action : (k : FieldOn ℕ) (m n : Matrix ℕ) (f : Vect k) → shape m ≡ shape n → act_by k m f ≡ act_by k n f
@@ -72,12 +73,12 @@ same-echelon k o U V vs to from h =
       spans = λ v is. h.spans v (from v is);
     }
 
-same-basis : (S : SpaceOver ℕ) (d : ℕ) (ms ns : List (Matrix ℕ)) (vs : List (Vect S.field)) → map shape ms ≡ map shape ns → IsEchelonBasis S ms d vs → IsEchelonBasis S ns d vs
+pub same-basis : (S : SpaceOver ℕ) (d : ℕ) (ms ns : List (Matrix ℕ)) (vs : List (Vect S.field)) → map shape ms ≡ map shape ns → IsEchelonBasis S ms d vs → IsEchelonBasis S ns d vs
 same-basis S d ms ns vs e h = same-echelon S.field _ (IsInvariantForm S.field (length S.weights) ms d) (IsInvariantForm S.field (length S.weights) ns d) vs
     (λ f. same-form S.field (length S.weights) d ms ns f e) (λ f. same-form S.field (length S.weights) d ns ms f (sym e)) h
 
 -- lists that fit are told by their vectors
-same-members : (S : SpaceOver ℕ) (xs ys : List (List (Entry ℕ))) → All (Fits S) xs → All (Fits S) ys → map (vec S.field) xs ≡ map (vec S.field) ys → xs ≡ ys
+pub same-members : (S : SpaceOver ℕ) (xs ys : List (List (Entry ℕ))) → All (Fits S) xs → All (Fits S) ys → map (vec S.field) xs ≡ map (vec S.field) ys → xs ≡ ys
 same-members S [] [] fit fit' e = refl
 same-members S [] (y ∷ ys) fit fit' e = absurd cc
 same-members S (x ∷ xs) [] fit fit' e = absurd cc
@@ -87,7 +88,7 @@ same-members S (x ∷ xs) (y ∷ ys) fit fit' e =
     ap₂ ◌∷◌ (fits_unique S x y (All-head (Fits S) x xs fit) (All-head (Fits S) y ys fit') first) (same-members S xs ys (All-tail (Fits S) x xs fit) (All-tail (Fits S) y ys fit') rest)
 
 -- a problem has one list of names
-names-one : (q : Problem) (names other : Names) → AreNamesOf q names → AreNamesOf q other → names ≡ other
+pub names-one : (q : Problem) (names other : Names) → AreNamesOf q names → AreNamesOf q other → names ≡ other
 names-one q names other h g = λ i. record { vars = (h.vars ∙ sym g.vars) i; primaries = (h.primaries ∙ sym g.primaries) i; irreducibles = (h.irreducibles ∙ sym g.irreducibles) i }
 
 record AtSpace (q : Problem) (d : ℕ) (text : List ℕ) (S : SpaceOver ℕ) : Type 0 where
@@ -98,7 +99,7 @@ record AtSpace (q : Problem) (d : ℕ) (text : List ℕ) (S : SpaceOver ℕ) : T
   are_names : AreNamesOf q names
   fit : All (Fits S) basis
   echelon : IsEchelonBasis S matrices d (map (vec S.field) basis)
-  is_text : text ≡ lines S names basis
+  is_text : text ≡ polynomial_lines [] S names basis
 
 at-space : (q : Problem) (d : ℕ) (text : List ℕ) (h : IsBasisText q d text) → AtSpace q d text h.space
 at-space q d text h = record { matrices = h.matrices; names = h.names; basis = h.basis; are_matrices = h.are_matrices; are_names = h.are_names; fit = h.fit; echelon = h.echelon; is_text = h.is_text }
@@ -107,7 +108,7 @@ text-at : (q : Problem) (d : ℕ) (text other : List ℕ) (S : SpaceOver ℕ) �
 text-at q d text other S h g =
     let shapes : map shape g.matrices ≡ map shape h.matrices = g.are_matrices ∙ sym h.are_matrices in
     let vectors = echelon_basis_unique S h.matrices d _ _ h.echelon (same-basis S d g.matrices h.matrices _ shapes g.echelon) in
-    h.is_text ∙ ap (lines S h.names) (same-members S h.basis g.basis h.fit g.fit vectors) ∙ ap (λ (n : Names). lines S n g.basis) (names-one q h.names g.names h.are_names g.are_names) ∙ sym g.is_text
+    h.is_text ∙ ap (polynomial_lines [] S h.names) (same-members S h.basis g.basis h.fit g.fit vectors) ∙ ap (λ (n : Names). polynomial_lines [] S n g.basis) (names-one q h.names g.names h.are_names g.are_names) ∙ sym g.is_text
 
 pub basis-text-one : (q : Problem) (d : ℕ) (text other : List ℕ) → IsBasisText q d text → IsBasisText q d other → text ≡ other
 basis-text-one q d text other h g =

@@ -1,5 +1,5 @@
 -- A fault that is handed on.
-use Rattle.std.proofs.Common.{◌≡◌, ℕ, sym, ap, subst}
+use Rattle.std.proofs.Common.{◌≡◌, ℕ, sym, ap, subst, inl, inr}
 use Rattle.std.specs.Prelude.{List, Result, Ok, Err, IfErr, IsErrAnd}
 use Rattle.alg_core.specs.declared.limits.Limits.{Limits}
 use Rattle.finvar_text.specs.Problems.{Problem, IsProblemText}
@@ -7,12 +7,15 @@ use Rattle.invariant_space.specs.declared.fault.SpaceFault.{SpaceFault}
 use Rattle.invariant_space.specs.declared.fault.SpaceFault.TheVariants as spaces
 use Rattle.matrix_group.specs.declared.fault.GroupFault.{GroupFault}
 use Rattle.matrix_group.specs.declared.fault.GroupFault.TheVariants as groups
-use Rattle.invring_app.specs.declared.commands.Command.TheVariants.{Basis, Order}
+use Rattle.invring_app.specs.declared.commands.Command.TheVariants.{Basis, Order, Primary}
 use Rattle.invring_app.specs.declared.status.BoundFault.TheVariants.{TermBound, GroupBound}
 use Rattle.invring_app.specs.Commands.Bases.{count_of, IsBoundTold}
 use Rattle.invring_app.specs.Commands.Orders.{IsGroupTold}
+use Rattle.primary_search.specs.declared.fault.SearchFault.{SearchFault}
+use Rattle.primary_search.specs.declared.fault.SearchFault.TheVariants as searches
+use Rattle.invring_app.specs.Commands.Primaries.{KeepsOrder, IsSearchTold}
 use Rattle.invring_app.specs.Answers.{IsFault}
-use Rattle.invring_app.specs.Faults.{fault_of_space, fault_of_group}
+use Rattle.invring_app.specs.Faults.{fault_of_space, fault_of_group, fault_of_search}
 use Rattle.invring_app.specs.Inputs.{OfScript}
 
 -- what holds of the error that it becomes
@@ -29,3 +32,14 @@ basis-fault d l bytes q spaces.Memory text told = tt
 pub order-fault : (l : Limits) (bytes : List ℕ) (q : Problem) (e : GroupFault) → IsProblemText bytes q → IsGroupTold l.max_order q e → IsFault Order l bytes (fault_of_group e)
 order-fault l bytes q (groups.GroupBound counted) text told = (OfScript q, text, (ap (λ (n : ℕ). GroupBound n) told.0, told.1))
 order-fault l bytes q groups.Memory text told = tt
+
+-- the group comes before the search
+pub group-fault : (l : Limits) (bytes : List ℕ) (q : Problem) (e : GroupFault) → IsProblemText bytes q → IsGroupTold l.max_order q e → IsFault Primary l bytes (fault_of_group e)
+group-fault l bytes q (groups.GroupBound counted) text told = (OfScript q, text, inl (ap (λ (n : ℕ). GroupBound n) told.0, told.1))
+group-fault l bytes q groups.Memory text told = tt
+
+pub search-fault : (l : Limits) (bytes : List ℕ) (q : Problem) (e : SearchFault ℕ) → IsProblemText bytes q → KeepsOrder l q → IsSearchTold l q e → IsFault Primary l bytes (fault_of_search e)
+search-fault l bytes q (searches.NoPrimary found d) text kept told = (OfScript q, text, inr (kept, told))
+search-fault l bytes q (searches.TermBound d count) text kept told = (OfScript q, text, inr (kept, told))
+search-fault l bytes q (searches.Basis b) text kept told = (OfScript q, text, inr (kept, told))
+search-fault l bytes q searches.Memory text kept told = tt

@@ -9,5 +9,9 @@ pub mod GivenLaws
 pub mod LineLaws
 pub mod NumeralLaws
 pub mod OrderLaws
+pub mod PrimaryEnds
+pub mod PrimaryLines
 pub mod RunLaws
+pub mod SearchEnds
+pub mod TextLines
 pub mod WordLaws

@@ -4,16 +4,19 @@
 --   line_of pieces       the pieces, one after another, and a newline
 --   input_pieces fault   what the line of a faulty input has before its newline, in pieces
 --   place_pieces p, bound_pieces fault   the same of a place and of a bound
+--   which_word w         the word for a module whose basis met a bound, and a space
 --   status_line status   the line of a status; nothing where the run is done
-use Rattle.std.specs.Prelude.{ℕ, List, [], ◌∷◌, ◌++◌, codes, decimal}
+use Rattle.std.specs.Prelude.{ℕ, List, [], ◌∷◌, ◌++◌, length, codes, decimal}
 use Rattle.alg_core.specs.declared.input_fault.InputFault.{InputFault}
 use Rattle.alg_core.specs.declared.input_fault.InputFault.TheVariants as faults
 use Rattle.alg_core.specs.declared.place.Place.{Place}
 use Rattle.alg_core.specs.declared.place.Place.TheVariants.{Byte, Line}
+use Rattle.module_groebner.specs.declared.bound.Which.{Which}
+use Rattle.module_groebner.specs.declared.bound.Which.TheVariants.{Ideal, Colon, Graph}
 use Rattle.invring_app.specs.declared.error_line.Piece.{Piece}
 use Rattle.invring_app.specs.declared.error_line.Piece.TheVariants.{Text, Number}
 use Rattle.invring_app.specs.declared.status.BoundFault.{BoundFault}
-use Rattle.invring_app.specs.declared.status.BoundFault.TheVariants.{TermBound, GroupBound}
+use Rattle.invring_app.specs.declared.status.BoundFault.TheVariants.{TermBound, GroupBound, NoPrimary, BasisBound}
 use Rattle.invring_app.specs.declared.status.Status.{Status}
 use Rattle.invring_app.specs.declared.status.Status.TheVariants.{Done, Usage, Syntax, Input, Bound, ReadFault, WriteFault, Memory}
 
@@ -40,9 +43,16 @@ abbrev pub place_pieces : Place → List (List ℕ)
 place_pieces (Byte n) = codes "syntax place " ∷ decimal n ∷ []
 place_pieces (Line n) = codes "syntax line " ∷ decimal n ∷ []
 
+abbrev pub which_word : Which → List ℕ
+which_word Ideal = codes "ideal "
+which_word Colon = codes "colon "
+which_word Graph = codes "graph "
+
 abbrev pub bound_pieces : BoundFault → List (List ℕ)
 bound_pieces (TermBound degree count) = codes "bound terms " ∷ decimal degree ∷ codes " " ∷ decimal count ∷ []
 bound_pieces (GroupBound counted) = codes "bound group " ∷ decimal counted ∷ []
+bound_pieces (NoPrimary found degree) = codes "bound primary " ∷ decimal (length found.items) ∷ codes " " ∷ decimal degree ∷ []
+bound_pieces (BasisBound which vector degree) = codes "bound basis " ∷ which_word which ∷ decimal degree ∷ []
 
 abbrev pub status_line : Status → List ℕ
 status_line Done = []

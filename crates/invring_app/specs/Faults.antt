@@ -3,6 +3,8 @@
 --   fault_of_script e   a syntax fault at its byte, a faulty input, or want of memory
 --   fault_of_space e    the bound on the monomials of a degree, or want of memory
 --   fault_of_group e    the bound on the elements of the group, or want of memory
+--   fault_of_search e   the bound that the search for primary invariants met, or want of memory
+use Rattle.std.specs.Prelude.{ℕ}
 use Rattle.alg_core.specs.declared.place.Place.TheVariants.{Byte}
 use Rattle.finvar_text.specs.declared.fault.ScriptFault.{ScriptFault}
 use Rattle.finvar_text.specs.declared.fault.ScriptFault.TheVariants as scripts
@@ -10,9 +12,11 @@ use Rattle.invariant_space.specs.declared.fault.SpaceFault.{SpaceFault}
 use Rattle.invariant_space.specs.declared.fault.SpaceFault.TheVariants as spaces
 use Rattle.matrix_group.specs.declared.fault.GroupFault.{GroupFault}
 use Rattle.matrix_group.specs.declared.fault.GroupFault.TheVariants as groups
+use Rattle.primary_search.specs.declared.fault.SearchFault.{SearchFault}
+use Rattle.primary_search.specs.declared.fault.SearchFault.TheVariants as searches
 use Rattle.invring_app.specs.declared.fault.Fault.{Fault}
 use Rattle.invring_app.specs.declared.fault.Fault.TheVariants.{Syntax, Input, Bound, Memory}
-use Rattle.invring_app.specs.declared.status.BoundFault.TheVariants.{TermBound, GroupBound}
+use Rattle.invring_app.specs.declared.status.BoundFault.TheVariants.{TermBound, GroupBound, NoPrimary, BasisBound}
 
 abbrev pub fault_of_script : ScriptFault → Fault
 fault_of_script (scripts.Syntax n) = Syntax (Byte n)
@@ -26,3 +30,9 @@ fault_of_space spaces.Memory = Memory
 abbrev pub fault_of_group : GroupFault → Fault
 fault_of_group (groups.GroupBound counted) = Bound (GroupBound counted)
 fault_of_group groups.Memory = Memory
+
+abbrev pub fault_of_search : SearchFault ℕ → Fault
+fault_of_search (searches.NoPrimary found degree) = Bound (NoPrimary found degree)
+fault_of_search (searches.TermBound degree count) = Bound (TermBound degree count)
+fault_of_search (searches.Basis b) = Bound (BasisBound b.which b.vector b.degree)
+fault_of_search searches.Memory = Memory

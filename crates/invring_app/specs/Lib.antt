@@ -1,6 +1,7 @@
 pub mod Numerals
 pub mod Inputs
 pub mod ErrorLines
+pub mod Lines
 pub mod Endings
 pub mod Commands
 pub mod Words

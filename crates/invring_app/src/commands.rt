@@ -7,13 +7,16 @@ ghost use Rattle.invring_app.specs.Commands.{command_of, IsNumberOf, reads};
 ghost use Rattle.invring_app.specs.Endings.{Answers};
 
 mod basis;
+mod lines;
 mod order;
+mod primary;
 
 use crate::fault::Fault;
 use crate::reading::Kind;
 use crate::words::Request;
 use basis::basis_text;
 use order::order_text;
+use primary::primary_text;
 use std::alloc::Global;
 
 /// What is to be done.
@@ -23,6 +26,8 @@ pub enum Command {
     Basis { degree: u32 },
     /// The order of the group.
     Order,
+    /// The first primary invariants, and the least powers of the variables in their ideal.
+    Primary,
 }
 
 /// The command of this name, with the number that was given exactly where it needs one, in its range.
@@ -36,6 +41,7 @@ pub(crate) fn command_in(name: &str, number: Option<u32>) -> Option<Command>
             (degree <= 1000).then_some(Command::Basis { degree })
         }
         "order" => number.is_none().then_some(Command::Order),
+        "primary" => number.is_none().then_some(Command::Primary),
         _ => None,
     }
 }
@@ -45,7 +51,7 @@ pub(crate) fn input_of(command: Command) -> Kind
     ensures is { result ≡ reads command }
 {
     match command {
-        Command::Basis { .. } | Command::Order => Kind::Script,
+        Command::Basis { .. } | Command::Order | Command::Primary => Kind::Script,
     }
 }
 
@@ -65,6 +71,10 @@ pub(crate) fn answer(alloc: Global, request: Request, bytes: &[u8]) -> Result<Ve
         }
         Command::Order => {
             let text = order_text(alloc, bytes, &limits)?;
+            Ok(text)
+        }
+        Command::Primary => {
+            let text = primary_text(alloc, bytes, &limits)?;
             Ok(text)
         }
     }

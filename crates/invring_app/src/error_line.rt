@@ -2,13 +2,14 @@
 
 ghost use Rattle.std.specs.Prelude.{◌≡◌, ◌≢◌, ◌<◌, ◌≤◌, ℕ, length, map, take, OnOk, OnErr, IsErr};
 ghost use Rattle.inv_outside.specs.Outside.{Rose, Took};
-ghost use Rattle.invring_app.specs.ErrorLines.{piece_text, line_of, bound_pieces, input_pieces, place_pieces, status_line};
+ghost use Rattle.invring_app.specs.ErrorLines.{piece_text, line_of, bound_pieces, input_pieces, place_pieces, status_line, which_word};
 ghost use Rattle.invring_app.specs.declared.status.Status.TheVariants as ends;
 
 use crate::digits::Digits;
 use crate::status::{BoundFault, Status};
 use alg_core::{InputFault, Place};
 use inv_outside::{Failed, Sink, write_all};
+use module_groebner::Which;
 
 /// A piece of a line.
 #[derive(Clone, Copy, Debug)]
@@ -83,6 +84,17 @@ fn input_line<'a>(fault: &'a InputFault) -> [Piece<'a>; 4]
     }
 }
 
+/// How a module is called.
+fn which_piece<'a>(which: Which) -> Piece<'a>
+    ensures is { piece_text result ≡ which_word which }
+{
+    match which {
+        Which::Ideal => Piece::Text(b"ideal "),
+        Which::Colon => Piece::Text(b"colon "),
+        Which::Graph => Piece::Text(b"graph "),
+    }
+}
+
 /// The pieces of the line of a bound.
 fn bound_line<'a>(fault: &BoundFault) -> [Piece<'a>; 4]
     ensures is { line_of (map piece_text result) ≡ line_of (bound_pieces fault.now) }
@@ -103,6 +115,18 @@ fn bound_line<'a>(fault: &BoundFault) -> [Piece<'a>; 4]
                 none,
             ]
         }
+        BoundFault::NoPrimary { found, degree } => [
+            Piece::Text(b"bound primary "),
+            Piece::Number(found.len() as u128),
+            Piece::Text(b" "),
+            Piece::Number(u128::from(*degree)),
+        ],
+        BoundFault::BasisBound { which, degree, .. } => [
+            Piece::Text(b"bound basis "),
+            which_piece(*which),
+            Piece::Number(u128::from(*degree)),
+            none,
+        ],
     }
 }
 

@@ -3,9 +3,11 @@ use alg_core::{InputFault, Memory, Place};
 use finvar_text::ScriptFault;
 use invariant_space::SpaceFault;
 use matrix_group::GroupFault;
+use module_groebner::BasisBound;
+use primary_search::SearchFault;
 
 /// Why bytes have no answer.
-#[derive(Debug, Drop)]
+#[derive(Drop)]
 pub(crate) enum Fault {
     Syntax(Place),
     Input(InputFault),
@@ -67,6 +69,36 @@ impl From<GroupFault> for Fault {
                 Fault::Bound(BoundFault::GroupBound { counted })
             }
             GroupFault::Memory => Fault::Memory,
+        }
+    }
+}
+
+impl From<SearchFault<u16>> for Fault {
+    ghost use Rattle.invring_app.specs.Faults.{fault_of_search};
+    ghost use Rattle.std.specs.Prelude.{◌≡◌};
+
+    ghost from_gives = { λ e f. f ≡ fault_of_search e };
+
+    fn from(fault: SearchFault<u16>) -> Fault {
+        match fault {
+            SearchFault::NoPrimary { found, degree } => {
+                Fault::Bound(BoundFault::NoPrimary { found, degree })
+            }
+            SearchFault::TermBound { degree, count } => {
+                Fault::Bound(BoundFault::TermBound { degree, count })
+            }
+            SearchFault::Basis(
+                BasisBound {
+                    vector,
+                    degree,
+                    which,
+                },
+            ) => Fault::Bound(BoundFault::BasisBound {
+                which,
+                vector,
+                degree,
+            }),
+            SearchFault::Memory => Fault::Memory,
         }
     }
 }

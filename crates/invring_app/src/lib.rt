@@ -1,4 +1,4 @@
-//! The call of the program: it reads the words and a script, and writes the basis or the order that they ask for.
+//! The call of the program: it reads the words and a script, and writes what they ask for.
 #![tactic(auto)]
 
 mod arguments;

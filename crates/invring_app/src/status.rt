@@ -1,18 +1,37 @@
 use crate::fault::Fault;
-use alg_core::{InputFault, Place};
+use alg_core::{InputFault, Mono, Place};
 use inv_outside::{Failed, ReadFault};
+use module_groebner::Which;
+use poly_module::{Poly, Vector};
 
 /// A bound of the program that was met.
-#[derive(Debug, Drop)]
+#[derive(Drop)]
 pub enum BoundFault {
     /// A degree was needed that has more monomials than the limit.
-    TermBound { degree: u32, count: u128 },
+    TermBound {
+        degree: u32,
+        count: u128,
+    },
     /// The group has more elements than the limit, at least `counted`.
-    GroupBound { counted: u64 },
+    GroupBound {
+        counted: u64,
+    },
+    /// The search took these up to the last degree, and not each variable has a power in their ideal.
+    NoPrimary {
+        found: Vec<Poly<u16>>,
+        degree: u32,
+    },
+    /// A module whose basis is needed has this element, of a degree over the limit, and its reduced
+    /// basis has a member of such a degree.
+    BasisBound {
+        which: Which,
+        vector: Vector<u16, Mono>,
+        degree: u64,
+    },
 }
 
 /// How a run ended.
-#[derive(Debug, Drop)]
+#[derive(Drop)]
 pub enum Status {
     Done,
     /// The words are no command.

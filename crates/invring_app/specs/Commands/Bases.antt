@@ -4,13 +4,12 @@
 --                           by degree reverse lexicographic order
 --   AreMatricesOf q ms      the generators of q, in their order
 --   AreNamesOf q names      the variables of q
---   lines S names es        the printed text of each list of entries, and a newline after it
 --   IsBasisText q d text    the lines of the echelon basis of the homogeneous invariants of degree d of the generators of q
 --   count_of d q            how many monomials of degree d there are in the variables of q
 --   IsBasisBound d l q f    the degree d has more of them than the limit allows, and f names d and their number
 --   IsBoundTold d m q e     e names d and their number, which is over m, or it is want of memory
 --   IsBasisAnswer d l q text   it has not, and the text is that of the basis
-use Rattle.std.specs.Prelude.{◌≡◌, ℕ, ◌<◌, ◌≤◌, List, [], ◌∷◌, ◌++◌, map, replicate, All, None}
+use Rattle.std.specs.Prelude.{◌≡◌, ℕ, ◌<◌, ◌≤◌, List, [], ◌∷◌, map, replicate, All, None}
 use Rattle.alg_core.specs.Binomials.{monomials_of_degree}
 use Rattle.alg_core.specs.DpOrder.{dp_order}
 use Rattle.alg_core.specs.Spaces.{SpaceOver, Fits}
@@ -19,11 +18,11 @@ use Rattle.alg_core.specs.declared.limits.Limits.{Limits}
 use Rattle.prime_field.specs.PrimeFields.{IsPrimeField}
 use Rattle.lin_algebra.specs.declared.matrix.Matrix.{Matrix}
 use Rattle.poly_text.specs.declared.names.Names.{Names}
-use Rattle.poly_text.specs.Texts.{polynomial_text}
 use Rattle.invariant_space.specs.InvariantSpaces.{IsEchelonBasis}
 use Rattle.finvar_text.specs.Problems.{Problem, variable_count}
 use Rattle.invariant_space.specs.declared.fault.SpaceFault.{SpaceFault}
 use Rattle.invariant_space.specs.declared.fault.SpaceFault.TheVariants as spaces
+use Rattle.invring_app.specs.Lines.{polynomial_lines}
 use Rattle.invring_app.specs.declared.status.BoundFault.{BoundFault}
 use Rattle.invring_app.specs.declared.status.BoundFault.TheVariants.{TermBound}
 
@@ -43,10 +42,6 @@ pub record AreNamesOf (q : Problem) (names : Names) : Type 0 where
   pub primaries : names.primaries ≡ None
   pub irreducibles : names.irreducibles ≡ None
 
-abbrev pub lines : SpaceOver ℕ → Names → List (List (Entry ℕ)) → List ℕ
-lines S names [] = []
-lines S names (es ∷ rest) = (polynomial_text S names es ++ 10 ∷ []) ++ lines S names rest
-
 pub record IsBasisText (q : Problem) (d : ℕ) (text : List ℕ) : Type 0 where
   pub space : SpaceOver ℕ
   pub matrices : List (Matrix ℕ)
@@ -58,7 +53,7 @@ pub record IsBasisText (q : Problem) (d : ℕ) (text : List ℕ) : Type 0 where
   pub fit : All (Fits space) basis
   pub polynomials : All (λ es. All (λ e. e.0.0 ≡ 0) es) basis
   pub echelon : IsEchelonBasis space matrices d (map (vec space.field) basis)
-  pub is_text : text ≡ lines space names basis
+  pub is_text : text ≡ polynomial_lines [] space names basis
 
 abbrev pub count_of : ℕ → Problem → ℕ
 count_of d q = monomials_of_degree (variable_count q) d

@@ -28,7 +28,7 @@ fn number_line(alloc: Global, number: u64) -> Result<Vec<u8>, Memory>
 
 /// The order of the group that the script's generators generate. GroupBound says that the group has
 /// more than `max_order` elements.
-fn group_order(alloc: Global, script: &Script, max_order: u64) -> Result<u64, GroupFault>
+pub(crate) fn group_order(alloc: Global, script: &Script, max_order: u64) -> Result<u64, GroupFault>
     requires sound { IsSound script.now }
     requires max { max_order ≤ 1000000 }
     ensures order { IfOk result (IsOrderOf (problem_in script.now)) }

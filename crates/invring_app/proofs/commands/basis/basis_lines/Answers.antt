@@ -1,4 +1,4 @@
-use Rattle.std.proofs.Common.{◌≡◌, ℕ, List, None, length, map, ap, sym, subst, ◌∙◌, refl, arith}
+use Rattle.std.proofs.Common.{◌≡◌, ℕ, List, [], None, length, map, ap, sym, subst, ◌∙◌, refl, arith}
 use Rattle.alg_core.specs.DpOrder.{dp_order}
 use Rattle.alg_core.specs.Spaces.{SpaceOver, over, entries}
 use Rattle.alg_core.specs.Vectors.{vec}
@@ -8,7 +8,7 @@ use Rattle.invariant_space.specs.InvariantSpaces.{IsEchelonBasis}
 use Rattle.lin_algebra.specs.declared.matrix.Matrix.{Matrix}
 use Rattle.prime_field.specs.PrimeFields.{gfp, IsPrimeField}
 use Rattle.prime_field.specs.declared.gfp.PrimeField.{PrimeField}
-use Rattle.invring_app.specs.Commands.Bases.{lines}
+use Rattle.invring_app.specs.Lines.{polynomial_lines}
 use Rattle.invring_app.proofs.BasisLaws.{weights_many, basis_is}
 use Rattle.invring_app.proofs.GeneratorLaws.{squares}
 use Rattle.invring_app.proofs.commands.basis.basis_lines.Goals as goal
@@ -33,9 +33,9 @@ returns-clause-basis c =
     subst (λ (gs : List (Matrix ℕ)). IsEchelonBasis S gs c.args.degree (map (λ p. vec (gfp space.field.p space.field.listed) (entries (λ (m : List ℕ). m) p)) c.in_ok-basis.basis.items)) c.deref.ensures.value c.in_ok-basis.ensures.echelon in
     basis_is (entries (λ (m : List ℕ). m)) c.args.script space (record { vars = c.args.script.names.items; primaries = None; irreducibles = None }) c.in_ok-basis.basis.items c.len-variables.result c.args.degree c.in_ok-text.text.items
     c.requires.sound many field c.in_ok-space.ensures.order (ap (λ (T : SpaceOver ℕ). T.weights) c.in_ok-space.ensures.is) (ap (λ (T : SpaceOver ℕ). T.shifts) c.in_ok-space.ensures.is) refl refl refl
-    (λ k p w. (c.in_ok-basis.ensures.polynomials k p w).fits) (λ k p w. (c.in_ok-basis.ensures.polynomials k p w).position) echelon (c.in_ok-text.ensures.text ∙ ap (λ ps. lines S (record { vars = c.args.script.names.items; primaries = None; irreducibles = None }) (map (entries (λ (m : List ℕ). m)) ps)) c.deref-2.ensures.value)
+    (λ k p w. (c.in_ok-basis.ensures.polynomials k p w).fits) (λ k p w. (c.in_ok-basis.ensures.polynomials k p w).position) echelon (c.in_ok-text.ensures.text ∙ ap (λ ps. polynomial_lines [] S (record { vars = c.args.script.names.items; primaries = None; irreducibles = None }) (map (entries (λ (m : List ℕ). m)) ps)) c.deref-2.ensures.value)
 
-pub lines-requires-clause-polynomials : goal.lines-requires-clause-polynomials
-lines-requires-clause-polynomials c =
+pub polynomial_lines-requires-clause-polynomials : goal.polynomial_lines-requires-clause-polynomials
+polynomial_lines-requires-clause-polynomials c =
     let S = over (λ (f : PrimeField). gfp f.p f.listed) (λ (o : Dp). dp_order o.weights.items) c.in_ok-space.space in
     subst (ArePolys S (λ (m : List ℕ). m)) (sym c.deref-2.ensures.value) c.in_ok-basis.ensures.polynomials
