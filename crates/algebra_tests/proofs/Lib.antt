@@ -1,1 +1,2 @@
 pub mod SmallVectors
+pub mod TestedForms
