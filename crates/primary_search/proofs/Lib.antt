@@ -9,7 +9,9 @@ pub mod EndedLaws
 pub mod FirstLaws
 pub mod LeadPowerSteps
 pub mod NumbersAbove
+pub mod KeptLaws
 pub mod OfferSteps
+pub mod KeptSteps
 pub mod SearchSteps
 pub mod TakenLaws
 pub mod UniqueLaws

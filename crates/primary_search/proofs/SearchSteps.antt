@@ -12,6 +12,8 @@ use Rattle.alg_core.specs.Vectors.{Vect, coef_at}
 use Rattle.lin_algebra.specs.declared.matrix.Matrix.{Matrix}
 use Rattle.poly_module.specs.Modules.{LeadBy, listed}
 use Rattle.poly_module.specs.Parts.{supp_zero}
+use Rattle.poly_module.specs.ReducedLists.{IsReducedBasisOf}
+use Rattle.poly_module.specs.SpaceVectors.{vectors_of}
 use Rattle.poly_module.proofs.ModuleElements.{module_positions}
 use Rattle.module_groebner.specs.declared.bound.BasisBound.{BasisBound}
 use Rattle.module_groebner.specs.declared.bound.BasisFault.{BasisFault}
@@ -25,6 +27,7 @@ use Rattle.finite_certificate.proofs.VariablePowers.{power_single}
 use Rattle.groebner_hom.specs.IdealBases.{AreHomogeneousPolys, NoIdealAbove, IsIdealBound}
 use Rattle.groebner_hom.specs.Colons.{IsColonBound}
 use Rattle.primary_search.specs.Candidates.{candidates}
+use Rattle.primary_search.specs.KeptBases.{IsKept}
 use Rattle.primary_search.specs.Searches.{IsUnfinished, Passes, PassesDegrees, Reaches, Takes, IsStop, IsLast, ComesTo, IsNoPrimary, IsTermBound, IsColonStop, IsIdealStop, IsEnd}
 use Rattle.primary_search.proofs.EndedLaws.{power_key, single_lead}
 
@@ -71,6 +74,25 @@ module _ {E : Type 0} (S : SpaceOver E) where
 
   pub no_polys : (d : ℕ) (ps : List (List (Term E (List ℕ)))) → ps ≡ [] → AreHomogeneousPolys S d ps
   no_polys d ps e = subst (AreHomogeneousPolys S d) (sym e) (λ k p l. absurd (omega arith))
+
+  -- no basis of the ideal of nothing
+  pub nothing_kept : (cap : ℕ) (T bs : List (List (Term E (List ℕ)))) → T ≡ [] → bs ≡ [] → IsKept S cap T bs
+  unfolding coef_at
+  nothing_kept cap T bs e f = record {
+    polynomials = no_polys cap bs f;
+    reduced = subst (λ l. IsReducedBasisOf S (InIdeal S.field (vectors_of S (λ m. m) l)) (vectors_of S (λ m. m) bs)) (sym e)
+        (subst (λ l. IsReducedBasisOf S (InIdeal S.field []) (vectors_of S (λ m. m) l)) (sym f) (record {
+          reduced = record {
+            inside = λ v i. absurd i;
+            lead = λ v i. absurd i;
+            monic = λ v t i. absurd i;
+            covers = λ v t i h. absurd (nothing_inside v i t h.there);
+            apart = λ v w s t i. absurd i;
+            falling = tt;
+          };
+          generates = λ v i. i;
+        }));
+  }
 
   module _ (gens : List (Matrix E)) (l : Limits) (d : ℕ) (T bs : List (Vect S.field)) (passed : PassesDegrees S gens l d T) where
     -- the next degree has too many monomials

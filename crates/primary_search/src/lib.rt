@@ -6,6 +6,7 @@ mod ended;
 mod fault;
 mod laws;
 mod primaries;
+mod taken;
 mod walk;
 
 pub use fault::SearchFault;

@@ -15,6 +15,7 @@ ghost use Rattle.primary_search.specs.Walks.{FirstPrimaries};
 ghost use Rattle.primary_search.specs.Searches.{IsNoPrimary, IsTermBound, IsColonStop, IsIdealStop, IsEnd};
 
 use crate::fault::SearchFault;
+use crate::taken::Taken;
 use crate::walk::walk;
 use alg_core::{Field, Limits, Space, TermOrder};
 use invariant_space::basis;
@@ -62,15 +63,15 @@ pub fn search<F: Field, O: TermOrder>(
     ensures basis { let S = over F.field O.order space.now in (b : BasisBound F.Elem) → result ≡ Err (faults.Basis b)
         → IsColonStop S gens.now limits.now b ⊎ IsIdealStop S gens.now limits.now b }
 {
-    let mut taken = Vec::new(alloc);
+    let mut taken = Taken::nothing(alloc);
     for below in 0..limits.max_degree {
         let members = basis(alloc, space, gens, below + 1, limits.max_terms)?;
         if walk(alloc, space, limits, members.as_slice(), &mut taken)? {
-            return Ok(taken);
+            return Ok(taken.members);
         }
     }
     Err(SearchFault::NoPrimary {
-        found: taken,
+        found: taken.members,
         degree: limits.max_degree,
     })
 }

@@ -21,9 +21,10 @@ loop-turn-init g c =
     let count : length bs ≡ length c.args.basis.now = length-map c.args.basis.now (vector_of S (λ m. m)) in
     record {
       stands = start_stands S.field.size (length c.args.basis.now) (two_values S.field) list start.members start.digits start.last;
-      along = along_start S c.args.limits.now.max_basis (all_candidates S.field bs) (xs c.args.taken.now.items) (to_come S.field bs list)
+      along = along_start S c.args.limits.now.max_basis (all_candidates S.field bs) (xs c.args.taken.now.members.items) (to_come S.field bs list)
           (all_come S.field bs list start.members (start.digits ∙ ap one_then_zeros (sym count)));
       polys = c.requires.taken;
+      kept = c.requires.kept;
       ideal = c.requires.ideal;
       unfinished = c.requires.unfinished;
     }
@@ -73,8 +74,8 @@ returns-in_err-offer-in-Some-clause-stop g c = λ b e.
     let coming : to_come S.field bs c.loop-turn.list ≡ v ∷ rest =
     some_is (λ p. to_come S.field bs c.loop-turn.list ≡ vector_of S (λ m. m) p ∷ rest) c.in_ok-next.field-0 c.in-Some.candidate c.in-Some.is c.in_ok-next.ensures.some in
     let most = c.args.limits.now.max_basis in
-    let T = xs c.args.taken.now.items in
-    let U = xs c.loop-turn.taken.items in
+    let T = xs c.args.taken.now.members.items in
+    let U = xs c.loop-turn.taken.members.items in
     let old = to_come S.field bs c.loop-turn.list in
     let stop = c.in_err-offer-in-Some.ensures.stop b (ap (λ x. Err x) (told c.from_residual-in_err-offer-in-Some.result c.in_err-offer-in-Some.field-0.0 c.from_residual-in_err-offer-in-Some.ensures.1 b e)) in
     along_stop S most all T U old rest v c.loop-turn.turn a coming c.args.limits.now.tries b c.loop-turn-test.true stop
@@ -91,10 +92,10 @@ returns-then-branch-clause-last g c = λ t.
     let coming : to_come S.field bs c.loop-turn.list ≡ v ∷ rest =
     some_is (λ p. to_come S.field bs c.loop-turn.list ≡ vector_of S (λ m. m) p ∷ rest) c.in_ok-next.field-0 c.in-Some.candidate c.in-Some.is c.in_ok-next.ensures.some in
     let most = c.args.limits.now.max_basis in
-    let T = xs c.args.taken.now.items in
-    let U = xs c.loop-turn.taken.items in
+    let T = xs c.args.taken.now.members.items in
+    let U = xs c.loop-turn.taken.members.items in
     let old = to_come S.field bs c.loop-turn.list in
-    along_last S most all T U old rest v c.loop-turn.turn a coming c.args.limits.now.tries (xs c.offer.new.taken.items) c.loop-turn-test.true (c.in_ok-offer-in-Some.ensures.last c.if-branch.true)
+    along_last S most all T U old rest v c.loop-turn.turn a coming c.args.limits.now.tries (xs c.offer.new.taken.members.items) c.loop-turn-test.true (c.in_ok-offer-in-Some.ensures.last c.if-branch.true)
 
 pub returns-then-branch-clause-unfinished : goal.returns-then-branch-clause-unfinished
 returns-then-branch-clause-unfinished g c = λ e. absurd (not_true true e refl)
@@ -114,13 +115,14 @@ loop-turn-preserved g c =
     let coming : to_come S.field bs c.loop-turn.list ≡ v ∷ rest =
     some_is (λ p. to_come S.field bs c.loop-turn.list ≡ vector_of S (λ m. m) p ∷ rest) c.in_ok-next.field-0 c.in-Some.candidate c.in-Some.is c.in_ok-next.ensures.some in
     let most = c.args.limits.now.max_basis in
-    let T = xs c.args.taken.now.items in
-    let U = xs c.loop-turn.taken.items in
+    let T = xs c.args.taken.now.members.items in
+    let U = xs c.loop-turn.taken.members.items in
     let old = to_come S.field bs c.loop-turn.list in
     record {
       stands = some_is (λ p. Stands S.field.size (length c.args.basis.now) c.next.new.self) c.in_ok-next.field-0 c.in-Some.candidate c.in-Some.is c.in_ok-next.ensures.stands;
-      along = along_more S most all T U old rest v c.loop-turn.turn a coming (xs c.offer.new.taken.items) (c.in_ok-offer-in-Some.ensures.passes c.if-branch.false);
+      along = along_more S most all T U old rest v c.loop-turn.turn a coming (xs c.offer.new.taken.members.items) (c.in_ok-offer-in-Some.ensures.passes c.if-branch.false);
       polys = c.in_ok-offer-in-Some.ensures.taken;
+      kept = c.in_ok-offer-in-Some.ensures.kept;
       ideal = c.in_ok-offer-in-Some.ensures.ideal;
       unfinished = c.in_ok-offer-in-Some.ensures.unfinished c.if-branch.false;
     }
