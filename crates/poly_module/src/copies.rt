@@ -24,7 +24,7 @@ pub(crate) fn term_at<E: Copy, M: Monomial>(
 
 /// The same vector, in memory of its own.
 pub fn copy<E: Copy, M: Monomial>(alloc: Global, a: &Vector<E, M>) -> Result<Vector<E, M>, Memory>
-    ensures same { IfOk result (λ v. entries M.exps v ≡ entries M.exps a.now) }
+    ensures same { let list = entries M.exps in IfOk result (λ v. list v ≡ list a.now) }
 {
     let xs = a.terms();
     let mut terms = Vec::new(alloc);

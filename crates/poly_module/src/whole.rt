@@ -39,8 +39,7 @@ pub fn single<F: Field, O: TermOrder, M: Monomial>(
     space: &Space<F, O>,
     term: &Term<F::Elem, M>,
 ) -> Result<Vector<F::Elem, M>, Memory>
-    requires value { Has (F.field space.now.field) term.now.coef }
-    requires place { IsPlace (over F.field O.order space.now) (entry M.exps term.now).0 }
+    requires given { ArePlaced (over F.field O.order space.now) M.exps (term.now ∷ []) }
     ensures sum { let S = over F.field O.order space.now in let x = M.exps in
         IfOk result (IsVectorOf S x (vector_of S x (term.now ∷ []))) }
 {

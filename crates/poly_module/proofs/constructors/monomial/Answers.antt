@@ -4,14 +4,15 @@ use Rattle.alg_core.specs.Vectors.{scale}
 use Rattle.alg_core.specs.Spaces.{over}
 use Rattle.poly_module.specs.Polynomials.{single_vector}
 use Rattle.poly_module.specs.SpaceVectors.{IsPolyOf}
+use Rattle.poly_module.proofs.EntryLists.{one_placed}
 use Rattle.poly_module.proofs.ConstantSteps.{polynomial_place, monomial_given}
 use Rattle.poly_module.proofs.constructors.monomial.Goals as goal
 
-pub single-requires-clause-place : goal.single-requires-clause-place
-single-requires-clause-place g c =
+pub single-requires : goal.single-requires
+single-requires g c =
     let S = over g.F.Field.field g.O.TermOrder.order c.args.space.now in
     let is : c.in_ok-mono.mono ≡ c.args.exponents.now = c.in_ok-mono.ensures.is in
-    polynomial_place S c.requires.polynomials c.in_ok-mono.mono (ap length is ∙ c.requires.wide)
+    record { given = one_placed S (λ (m : List ℕ). m) _ c.requires.value (polynomial_place S c.requires.polynomials c.in_ok-mono.mono (ap length is ∙ c.requires.wide)) }
 
 pub returns : goal.returns
 returns g c =

@@ -2,19 +2,15 @@ use Rattle.std.proofs.Common.{rules, ◌/◌, length, arith}
 use Rattle.alg_core.specs.Fields.{Has}
 use Rattle.alg_core.specs.Spaces.{over, IsPlace}
 use Rattle.poly_module.proofs.Halves.{front_given, back_given, halves}
-use Rattle.poly_module.proofs.EntryLists.{given_at}
+use Rattle.poly_module.proofs.EntryLists.{given_at, one_placed}
 use Rattle.poly_module.proofs.SpaceVectorLaws.{vector_given}
 use Rattle.poly_module.proofs.whole.+make.Goals as goal
 
-pub single-requires-clause-value : goal.single-requires-clause-value
-single-requires-clause-value g t c =
+pub single-requires : goal.single-requires
+single-requires g t c =
     let S = over g.F.Field.field g.O.TermOrder.order c.args.space.now in
-    (given_at S g.M.Monomial.exps (λ e. Has S.field e.1 × IsPlace S e.0) c.args.terms.now 0 c.index-terms-0.result (omega arith) c.index-terms-0.is c.requires.given).0
-
-pub single-requires-clause-place : goal.single-requires-clause-place
-single-requires-clause-place g t c =
-    let S = over g.F.Field.field g.O.TermOrder.order c.args.space.now in
-    (given_at S g.M.Monomial.exps (λ e. Has S.field e.1 × IsPlace S e.0) c.args.terms.now 0 c.index-terms-0.result (omega arith) c.index-terms-0.is c.requires.given).1
+    let placed = given_at S g.M.Monomial.exps (λ e. Has S.field e.1 × IsPlace S e.0) c.args.terms.now 0 c.index-terms-0.result (omega arith) c.index-terms-0.is c.requires.given in
+    record { given = one_placed S g.M.Monomial.exps c.index-terms-0.result placed.0 placed.1 }
 
 pub make-requires : goal.make-requires
 make-requires g t c κs within =
