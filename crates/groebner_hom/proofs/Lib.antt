@@ -6,3 +6,15 @@ pub mod SecondParts
 pub mod NonzerodivisorSteps
 pub mod PowerBounds
 pub mod ExponentSteps
+pub mod UnmarkedParts
+pub mod LeastPowers
+pub mod PowerSteps
+pub mod RelationSteps
+pub mod MarkedKeys
+pub mod MarkedValues
+pub mod Freeness
+pub mod LeadsOfRelations
+pub mod StrippedElements
+pub mod LiftLeads
+pub mod IdealsAbove
+pub mod RelationsAbove

@@ -35,7 +35,7 @@ use Rattle.groebner_hom.specs.Exponents.{exponent_cap, HasUnitDegrees, IsEndedBa
 use Rattle.groebner_hom.proofs.PolynomialLists.{are_homogeneous, are_homogeneous_up_to, are_polynomials, ideal_polynomials}
 
 -- an exponent is at most the degree
-exponent_low : (n i : ℕ) (a : List ℕ) (j : ℕ) → j < n → exponent a j ≤ weight (replicate n 1) i a
+pub exponent_low : (n i : ℕ) (a : List ℕ) (j : ℕ) → j < n → exponent a j ≤ weight (replicate n 1) i a
 unfolding weight
 exponent_low zero i a j h = absurd (omega arith)
 exponent_low (suc n) i [] j h = omega arith
@@ -43,7 +43,7 @@ exponent_low (suc n) i (x ∷ a) zero h = omega arith
 exponent_low (suc n) i (x ∷ a) (suc j) h = let r = exponent_low n (suc i) a j (omega arith) in omega arith
 
 -- and the degree at most the sum of the exponents' bounds
-weight_bound : (n i : ℕ) (a : List ℕ) (c : ℕ) → length a ≤ n → ((j : ℕ) → j < n → exponent a j ≤ c) → weight (replicate n 1) i a ≤ n * c
+pub weight_bound : (n i : ℕ) (a : List ℕ) (c : ℕ) → length a ≤ n → ((j : ℕ) → j < n → exponent a j ≤ c) → weight (replicate n 1) i a ≤ n * c
 unfolding weight
 weight_bound n i [] c short each = omega arith
 weight_bound zero i (x ∷ a) c short each = absurd (omega arith)
@@ -53,7 +53,7 @@ weight_bound (suc n) i (x ∷ a) c short each =
     omega arith
 
 -- no other variable has an exponent in a power of a variable
-exponent_elsewhere : (i e j : ℕ) → ¬ (j ≡ i) → exponent (after_zeros i (e ∷ [])) j ≡ 0
+pub exponent_elsewhere : (i e j : ℕ) → ¬ (j ≡ i) → exponent (after_zeros i (e ∷ [])) j ≡ 0
 unfolding after_zeros
 exponent_elsewhere zero e zero n = absurd (n refl)
 exponent_elsewhere zero e (suc j) n = refl

@@ -13,7 +13,7 @@ use poly_module::{Poly, monomial};
 use std::alloc::Global;
 
 /// The power of variable i, from 0, with this exponent.
-fn variable_power<F: Field, O: TermOrder>(
+pub(crate) fn variable_power<F: Field, O: TermOrder>(
     alloc: Global,
     space: &Space<F, O>,
     i: usize,

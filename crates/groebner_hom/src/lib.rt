@@ -1,13 +1,17 @@
-//! Ideals of homogeneous polynomials: their bases, membership and nonzerodivisors.
+//! Ideals of homogeneous polynomials: their bases, membership, nonzerodivisors and lifts.
 #![tactic(auto)]
 
 mod colon;
 mod exponents;
 mod ideal;
 mod laws;
+mod least_powers;
+mod lifts;
 mod nonzerodivisor;
 
 pub use exponents::least_exponents;
 pub use ideal::{ideal_basis, member};
-pub use laws::colon_modules;
+pub use laws::{colon_modules, ideals_with_marks, regular_forms};
+pub use least_powers::powers;
+pub use lifts::lifted_basis;
 pub use nonzerodivisor::is_nonzerodivisor;

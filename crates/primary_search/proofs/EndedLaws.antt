@@ -34,7 +34,7 @@ use Rattle.module_groebner.proofs.Remainders.{remainder_exists, remainder_differ
 use Rattle.finite_certificate.specs.Ideals.{InIdeal, variable_power, Ended}
 use Rattle.finite_certificate.proofs.VariablePowers.{power_single}
 use Rattle.groebner_hom.proofs.PolynomialLists.{same_ideal}
-use Rattle.primary_search.specs.LeadPowers.{IsPowerOf, HasPowerLead}
+use Rattle.groebner_hom.specs.LeadPowers.{IsPowerOf, HasPowerLead}
 
 -- the key of a power of a variable
 abbrev pub power_key : ℕ → ℕ → Key

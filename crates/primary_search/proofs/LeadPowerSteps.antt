@@ -18,7 +18,7 @@ use Rattle.poly_module.proofs.SpaceVectorLaws.{is_polynomial}
 use Rattle.module_groebner.proofs.CompletionEnds.{lead_not_zero}
 use Rattle.module_groebner.proofs.Families.{in_get}
 use Rattle.groebner_hom.proofs.SecondParts.{not_true}
-use Rattle.primary_search.specs.LeadPowers.{IsPowerOf, HasPowerLead}
+use Rattle.groebner_hom.specs.LeadPowers.{IsPowerOf, HasPowerLead}
 
 -- the exponents of a list
 pub exponent_read : (a : List ℕ) (j : ℕ) → exponent a j ≡ get_or a j 0

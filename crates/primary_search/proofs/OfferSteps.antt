@@ -23,7 +23,7 @@ use Rattle.finite_certificate.specs.Ideals.{InIdeal, Nonzerodivisor, Ended}
 use Rattle.groebner_hom.specs.Colons.{NoColonAbove, IsColonBound}
 use Rattle.groebner_hom.specs.IdealBases.{IsHomogeneousPoly, AreHomogeneousPolys, NoIdealAbove, IsIdealBound}
 use Rattle.groebner_hom.proofs.SecondParts.{not_true}
-use Rattle.primary_search.specs.LeadPowers.{HasPowerLead}
+use Rattle.groebner_hom.specs.LeadPowers.{HasPowerLead}
 use Rattle.primary_search.specs.Searches.{IsUnfinished, Passes, Reaches, IsStop, IsLast}
 use Rattle.primary_search.proofs.EndedLaws.{no_power, all_powers}
 

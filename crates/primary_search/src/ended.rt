@@ -1,7 +1,7 @@
 ghost use Rattle.std.specs.Prelude.{◌≡◌, ◌<◌, ◌↔◌, ℕ, IsTrue, IfNone, IfSome, length, slice_index};
 ghost use Rattle.alg_core.specs.Spaces.{over};
 ghost use Rattle.poly_module.specs.SpaceVectors.{ArePolys, vectors_of};
-ghost use Rattle.primary_search.specs.LeadPowers.{IsPowerOf, HasPowerLead};
+ghost use Rattle.groebner_hom.specs.LeadPowers.{IsPowerOf, HasPowerLead};
 
 use alg_core::{Field, Mono, Monomial, Space, TermOrder};
 use poly_module::{Poly, lead};

@@ -1,7 +1,7 @@
 use Rattle.std.proofs.Common.{ℕ, ◌<◌}
 use Rattle.alg_core.specs.Spaces.{over}
 use Rattle.poly_module.specs.SpaceVectors.{vectors_of}
-use Rattle.primary_search.specs.LeadPowers.{HasPowerLead}
+use Rattle.groebner_hom.specs.LeadPowers.{HasPowerLead}
 use Rattle.primary_search.proofs.ended.powerless_variable.Given as goal
 
 abbrev pub invariant-loop-i : goal.invariant-loop-i
