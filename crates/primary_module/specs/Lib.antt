@@ -1,0 +1,3 @@
+pub mod PrimaryModules
+pub mod Positions
+pub mod UndividedMonomials
