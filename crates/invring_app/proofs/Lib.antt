@@ -1,7 +1,6 @@
 pub mod BasisLaws
 pub mod CommandCases
 pub mod CommandLaws
-pub mod DigitLaws
 pub mod EndingLaws
 pub mod FaultLaws
 pub mod GeneratorLaws

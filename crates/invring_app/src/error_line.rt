@@ -5,11 +5,11 @@ ghost use Rattle.inv_outside.specs.Outside.{Rose, Took};
 ghost use Rattle.invring_app.specs.ErrorLines.{piece_text, line_of, bound_pieces, input_pieces, place_pieces, status_line, which_word};
 ghost use Rattle.invring_app.specs.declared.status.Status.TheVariants as ends;
 
-use crate::digits::Digits;
 use crate::status::{BoundFault, Status};
 use alg_core::{InputFault, Place};
 use inv_outside::{Failed, Sink, write_all};
 use module_groebner::Which;
+use poly_text::Digits;
 
 /// A piece of a line.
 #[derive(Clone, Copy, Debug)]

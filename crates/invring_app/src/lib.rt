@@ -3,7 +3,6 @@
 
 mod arguments;
 mod commands;
-mod digits;
 mod error_line;
 mod fault;
 mod field;

@@ -7,9 +7,10 @@ pub mod Scans
 pub mod FactorSteps
 pub mod EntrySteps
 pub mod TermSteps
+pub mod DigitLaws
+pub mod OutputLaws
+pub mod PositionLaws
 pub mod SpellingLaws
-pub mod Positions
-pub mod PlaceLists
 pub mod CombinationTerms
 pub mod VariablePlaces
 pub mod PrintedFactors

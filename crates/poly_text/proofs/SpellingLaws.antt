@@ -1,15 +1,15 @@
 -- Spellings of lists that grow at their ends.
-use Rattle.std.proofs.Common.{◌≡◌, ◌≢◌, ℕ, suc, ◌+◌, ◌-◌, ◌<◌, ◌≤◌, nat_lt, Some, Bool, true, false, ◌==◌, ◌||◌, not, List, [], ◌∷◌, ◌++◌, length, get_or, take, map, refl, sym, ap, ap₂, ◌∙◌, arith, append_assoc}
+use Rattle.std.proofs.Common.{◌≡◌, ◌≢◌, ℕ, suc, ◌+◌, ◌-◌, ◌<◌, ◌≤◌, nat_lt, Bool, true, false, ◌==◌, ◌||◌, ◌&&◌, not, List, [], ◌∷◌, ◌++◌, length, get_or, take, map, refl, sym, ap, ap₂, ◌∙◌, arith, append_assoc}
 use mathlib.Core.List.{map-map}
 use Rattle.std.specs.Prelude.{decimal, if◌then◌else◌}
 use Rattle.std.proofs.lemmas.List.{append-nil, take_all, take_more, length-take-le, length-map, map_more}
 use Rattle.std.proofs.lemmas.Bool.Decides.{nat_tests}
 use Rattle.std.proofs.lemmas.Fmt.{decimal_digit}
-use Rattle.poly_text.specs.Syntax.{Variable, Marked, Factor, Term, factor_text, starred, product_text, signed, spelling}
-use Rattle.poly_text.specs.declared.names.Names.{Names}
-use Rattle.poly_text.specs.declared.syntax.Mark.TheVariants.{Primary}
-use Rattle.poly_text.specs.Texts.{count_of, variable_at, factors_from}
-use Rattle.poly_text.specs.Printing.{star, joined, coefficient_text, is_none, sign_text, term_text}
+use Rattle.poly_text.specs.Syntax.{Variable, Marked, Factor, Term, variable_text, factor_text, starred, product_text, signed, spelling}
+use Rattle.alg_core.specs.Vectors.{Entry}
+use Rattle.poly_text.specs.declared.syntax.Mark.TheVariants.{Primary, Secondary}
+use Rattle.poly_text.specs.Texts.{variable_in, factors_from, is_negative, absolute, combination_term}
+use Rattle.poly_text.specs.Printing.{star, joined, coefficient_text, is_none, sign_text, term_text, led}
 
 suc_test : (n : ℕ) → (suc n == 0) ≡ false
 suc_test n = grind (arith, nat_tests)
@@ -46,22 +46,34 @@ spelling_first t ts = one t.is_negative (product_text t.coefficient t.factors)
     one true p = refl
     one false p = refl
 
--- the spelling, but nothing where there is no term
-abbrev pub opened : List Term → List ℕ
-opened [] = []
-opened (t ∷ ts) = spelling (t ∷ ts)
+-- terms after others
+pub led_append : (b : Bool) (ts us : List Term) → led b (ts ++ us) ≡ led b ts ++ led (b && (length ts == 0)) us
+led_append true [] us = refl
+led_append false [] us = refl
+led_append b (t ∷ ts) us =
+    ap (λ l. term_text b t ++ l) (signed_append ts us ∙ ap (λ l. signed ts ++ l) (sym (led_false us))) ∙ sym (append_assoc (term_text b t) (signed ts) (led false us))
+    ∙ ap (λ c. (term_text b t ++ signed ts) ++ led c us) (sym (and_false b (length ts)))
+  where
+    led_false : (us : List Term) → led false us ≡ signed us
+    led_false [] = refl
+    led_false (u ∷ us) = one u.is_negative (product_text u.coefficient u.factors) (signed us)
+      where
+        one : (n : Bool) (p l : List ℕ) → (sign_text false n ++ p) ++ l ≡ (if n then 45 else 43) ∷ (p ++ l)
+        one true p l = refl
+        one false p l = refl
 
--- one term more; b says that it is the first
-pub opened_more : (ts : List Term) (t : Term) (b : Bool) → b ≡ (length ts == 0) → opened (ts ++ t ∷ []) ≡ opened ts ++ term_text b t
-opened_more [] t b e = spelling_first t [] ∙ append-nil (term_text true t) ∙ ap (λ b. term_text b t) (sym e)
-opened_more (u ∷ ts) t b e =
-    spelling_first u (ts ++ t ∷ []) ∙ ap (λ l. term_text true u ++ l) (signed_more ts t) ∙ sym (append_assoc (term_text true u) (signed ts) (term_text false t))
-    ∙ ap₂ (λ l b. l ++ term_text b t) (sym (spelling_first u ts)) (sym (e ∙ suc_test (length ts)))
+    and_false : (b : Bool) (n : ℕ) → (b && (suc n == 0)) ≡ false
+    and_false true n = suc_test n
+    and_false false n = refl
+
+-- one term more; c says that it is the first
+pub led_more : (b c : Bool) (ts : List Term) (t : Term) → c ≡ (b && (length ts == 0)) → led b (ts ++ t ∷ []) ≡ led b ts ++ term_text c t
+led_more b c ts t first = led_append b ts (t ∷ []) ∙ ap (λ l. led b ts ++ l) (append-nil (term_text (b && (length ts == 0)) t)) ∙ ap (λ d. led b ts ++ term_text d t) (sym first)
 
 -- the spelling of all terms; b says that there is none
-pub spelling_opened : (ts : List Term) (b : Bool) → b ≡ (length ts == 0) → opened ts ++ (if b then 48 ∷ [] else []) ≡ spelling ts
-spelling_opened [] b e = ap (λ (b : Bool). if b then 48 ∷ [] else []) e
-spelling_opened (t ∷ ts) b e = ap (λ (b : Bool). spelling (t ∷ ts) ++ (if b then 48 ∷ [] else [])) (e ∙ suc_test (length ts)) ∙ append-nil (spelling (t ∷ ts))
+pub spelling_led : (ts : List Term) (b : Bool) → b ≡ (length ts == 0) → led true ts ++ (if b then 48 ∷ [] else []) ≡ spelling ts
+spelling_led [] b e = ap (λ (b : Bool). if b then 48 ∷ [] else []) e
+spelling_led (t ∷ ts) b e = ap (λ (b : Bool). led true (t ∷ ts) ++ (if b then 48 ∷ [] else [])) (e ∙ suc_test (length ts)) ∙ append-nil (led true (t ∷ ts)) ∙ sym (spelling_first t ts)
 
 pub joined_append : (b : Bool) (fs gs : List Factor) → joined b (fs ++ gs) ≡ joined b fs ++ joined (b || not (is_none fs)) gs
 joined_append true [] gs = refl
@@ -152,25 +164,32 @@ term_joined b negative begun size t old signs counted powered new is_negative is
     regroup a x y z w = simp append_assoc
 
 -- a loop that puts a term after those before
-pub opened_step : {X : Type 0} (T : X → Term) (xs : List X) (i : ℕ) (x : X) (b : Bool) (old new : List ℕ) → i < length xs → x ≡ get_or xs i x → b ≡ (i == 0) → old ≡ opened (map T (take i xs)) → new ≡ old ++ term_text b (T x)
-    → new ≡ opened (map T (take (i + 1) xs))
-opened_step T xs i x b old new h read first was pushed =
-    pushed ∙ ap (λ l. l ++ term_text b (T x)) was
-    ∙ sym (opened_more (map T (take i xs)) (T x) b (first ∙ ap (λ n. n == 0) (omega (arith, length-map (take i xs) T, length-take-le i xs (omega arith)))))
-    ∙ ap opened (ap (λ y. map T (take i xs) ++ T y ∷ []) read ∙ sym (map_more T xs i x h))
+pub led_step : {X : Type 0} (T : X → Term) (xs : List X) (i : ℕ) (x : X) (w : List ℕ) → i < length xs → x ≡ get_or xs i x
+    → (w ++ led true (map T (take i xs))) ++ term_text (i == 0) (T x) ≡ w ++ led true (map T (take (i + 1) xs))
+led_step T xs i x w h read =
+    append_assoc w (led true (map T (take i xs))) (term_text (i == 0) (T x))
+    ∙ ap (λ l. w ++ l) (sym (led_more true (i == 0) (map T (take i xs)) (T x) (ap (λ n. n == 0) (omega (arith, length-map (take i xs) T, length-take-le i xs (omega arith))))))
+    ∙ ap (λ l. w ++ led true l) (ap (λ y. map T (take i xs) ++ T y ∷ []) read ∙ sym (map_more T xs i x h))
 
 -- its end: T makes the terms of what f gives of the elements, which are ys
-pub opened_all : {X Y : Type 0} (T : ℕ → Y → Term) (f : X → Y) (p p' : ℕ) (xs : List X) (ys : List Y) (i : ℕ) (b : Bool) (old new : List ℕ) → length xs ≤ i → b ≡ (length xs == 0)
-    → old ≡ opened (map (λ x. T p (f x)) (take i xs)) → new ≡ old ++ (if b then 48 ∷ [] else []) → p ≡ p' → map f xs ≡ ys → new ≡ spelling (map (T p') ys)
-opened_all T f p p' xs ys i b old new h none was is same all =
-    is ∙ ap (λ l. l ++ (if b then 48 ∷ [] else [])) (was ∙ ap (λ l. opened (map (λ x. T p (f x)) l)) (take_all i xs h))
-    ∙ spelling_opened (map (λ x. T p (f x)) xs) b (none ∙ ap (λ n. n == 0) (sym (length-map xs (λ x. T p (f x)))))
-    ∙ ap spelling (sym (map-map (T p) f xs)) ∙ ap₂ (λ p l. spelling (map (T p) l)) same all
+pub led_all : {X Y : Type 0} (T : Y → Term) (f : X → Y) (xs : List X) (ys : List Y) (i : ℕ) (b : Bool) (w : List ℕ) → length xs ≤ i → b ≡ (length xs == 0) → map f xs ≡ ys
+    → (w ++ led true (map (λ x. T (f x)) (take i xs))) ++ (if b then 48 ∷ [] else []) ≡ w ++ spelling (map T ys)
+led_all T f xs ys i b w h none all =
+    append_assoc w (led true (map (λ x. T (f x)) (take i xs))) (if b then 48 ∷ [] else [])
+    ∙ ap (λ l. w ++ (led true (map (λ x. T (f x)) l) ++ (if b then 48 ∷ [] else []))) (take_all i xs h)
+    ∙ ap (λ l. w ++ l) (spelling_led (map (λ x. T (f x)) xs) b (none ∙ ap (λ n. n == 0) (sym (length-map xs (λ x. T (f x))))))
+    ∙ ap (λ l. w ++ spelling l) (sym (map-map T f xs) ∙ ap (map T) all)
+
+-- the parts of a power, one after another
+pub factor_put : (w : List ℕ) (b : Bool) (f : Factor) → ((w ++ star b) ++ variable_text f.variable) ++ (if f.exponent == 1 then [] else 94 ∷ decimal f.exponent) ≡ w ++ (star b ++ factor_text f)
+factor_put w b f = regroup w (star b) (variable_text f.variable) (if f.exponent == 1 then [] else 94 ∷ decimal f.exponent)
+  where
+    regroup : (a x y z : List ℕ) → ((a ++ x) ++ y) ++ z ≡ a ++ (x ++ (y ++ z))
+    regroup a x y z = simp append_assoc
 
 -- the primary invariants alone
-pub primary_factors : (names : Names) (a : List ℕ) → names.vars ≡ [] → names.primaries ≡ Some (length a) → factors_from (variable_at names) 0 a ≡ factors_from (λ i. Marked Primary (i + 1)) 0 a
-primary_factors names a none count =
-    factors_same (variable_at names) (λ i. Marked Primary (i + 1)) 0 a (λ j low high. primary _ _ j _ _ (ap length none) (omega (arith, ap count_of count)))
+pub primary_factors : (a : List ℕ) → factors_from (variable_in [] (length a)) 0 a ≡ factors_from (λ i. Marked Primary (i + 1)) 0 a
+primary_factors a = factors_same (variable_in [] (length a)) (λ i. Marked Primary (i + 1)) 0 a (λ j low high. primary 0 (length a) j _ _ refl (omega arith))
   where
     primary : (n r j : ℕ) (x z : Variable) → n ≡ 0 → j < r → (if nat_lt j n then x else if nat_lt j (n + r) then Marked Primary (j - n + 1) else z) ≡ Marked Primary (j + 1)
     primary n r j x z e h =
@@ -178,3 +197,32 @@ primary_factors names a none count =
         let within : nat_lt j (n + r) ≡ true = grind (arith, nat_tests) in
         ap (λ b. if b then x else if nat_lt j (n + r) then Marked Primary (j - n + 1) else z) before
         ∙ ap (λ b. if b then Marked Primary (j - n + 1) else z) within ∙ ap (λ m. Marked Primary m) (omega arith)
+
+-- the parts of a term of a combination, one after another
+pub combination_joined : (w : List ℕ) (b : Bool) (p : ℕ) (e : Entry ℕ) (negative begun : Bool) (size n : ℕ) → negative ≡ is_negative p e.1 → size ≡ absolute p e.1 → n ≡ length e.0.1
+    → begun ≡ (not (size == 1) || not (is_none (factors_from (variable_in [] n) 0 e.0.1)))
+    → ((((w ++ sign_text b negative) ++ coefficient_text size) ++ joined (not (size == 1)) (factors_from (variable_in [] n) 0 e.0.1)) ++ star begun) ++ variable_text (Marked Secondary (e.0.0 + 1))
+    ≡ w ++ term_text b (combination_term p e)
+combination_joined w b p e negative begun size n is_negative is_size count is_begun =
+    append_assoc powered (star begun) (variable_text v) ∙ ap (λ l. powered ++ (star begun ++ l)) (sym (append-nil (variable_text v)))
+    ∙ sym (append-nil (powered ++ (star begun ++ factor_text f)))
+    ∙ term_joined b negative true size t w (w ++ sign_text b negative) ((w ++ sign_text b negative) ++ coefficient_text size) (powered ++ (star begun ++ factor_text f)) _ is_negative is_size refl refl
+    (joined_more (not (size == 1)) begun fs t.factors f ((w ++ sign_text b negative) ++ coefficient_text size) powered _ refl is_begun refl all) (begun_more (not (size == 1)) fs t.factors f all) refl
+  where
+    v : Variable
+    v = Marked Secondary (e.0.0 + 1)
+
+    f : Factor
+    f = record { variable = Marked Secondary (e.0.0 + 1); exponent = 1 }
+
+    t : Term
+    t = combination_term p e
+
+    fs : List Factor
+    fs = factors_from (variable_in [] n) 0 e.0.1
+
+    powered : List ℕ
+    powered = ((w ++ sign_text b negative) ++ coefficient_text size) ++ joined (not (size == 1)) (factors_from (variable_in [] n) 0 e.0.1)
+
+    all : factors_from (λ i. Marked Primary (i + 1)) 0 e.0.1 ++ f ∷ [] ≡ factors_from (variable_in [] n) 0 e.0.1 ++ f ∷ []
+    all = ap (λ l. l ++ f ∷ []) (sym (ap (λ m. factors_from (variable_in [] m) 0 e.0.1) count ∙ primary_factors e.0.1))

@@ -1,14 +1,17 @@
-ghost use Rattle.std.specs.Prelude.{◌≡◌, ℕ, ◌<◌, ◌+◌, ◌^◌, ◌++◌, List, [], Some, None, length, map, get_or, All, IfOk};
+ghost use Rattle.std.specs.Prelude.{◌≡◌, ℕ, ◌<◌, ◌≤◌, ◌+◌, ◌^◌, ◌++◌, List, length, map, All, IfOk};
 ghost use Rattle.alg_core.specs.Spaces.{over, entry, entries};
 ghost use Rattle.poly_module.specs.SpaceVectors.{IsVector};
-ghost use Rattle.alg_core.specs.Vectors.{Entry};
-ghost use Rattle.poly_text.specs.Texts.{by_position, combination_term, combination_text};
-ghost use Rattle.poly_text.specs.Printing.{term_text};
+ghost use Rattle.poly_text.specs.Outputs.{Says};
+ghost use Rattle.poly_text.specs.Syntax.{spelling};
+ghost use Rattle.poly_text.specs.Texts.{at_position, by_position, combination_term, combination_text};
+ghost use Rattle.poly_text.specs.Printing.{term_text, led, IsFirstPosition, IsNearer};
 
-use crate::Names;
-use crate::print::{absolute, is_negative, push_coefficient, push_factors, push_mark, push_sign};
+use crate::output::Output;
+use crate::print::{
+    absolute, is_negative, put_coefficient, put_factors, put_mark, put_sign, put_star, put_zero,
+};
 use crate::syntax::Mark;
-use alg_core::{Field, Memory, Mono, Space, Term, TermOrder};
+use alg_core::{Field, Memory, Mono, Monomial, Space, Term, TermOrder};
 use poly_module::Comb;
 use prime_field::PrimeField;
 use std::alloc::Global;
@@ -24,72 +27,92 @@ pub fn print_comb<O: TermOrder>(
     ensures text { let S = over ⟦<PrimeField as Field>⟧.field O.order space.now in
         IfOk result (λ t. t.items ≡ combination_text S (entries (λ m. m) c.now.vector)) }
 {
+    let mut output = Output::keeping(alloc);
+    put_comb(&mut output, space.field.characteristic(), c);
+    output.finish()
+}
+
+/// Puts the text of a combination over GF(p). The space need not be known: the terms stand as they are stored, those
+/// at one position fall. Takes time in the product of the positions that occur and the terms.
+pub fn put_comb(output: &mut Output, p: u32, c: &Comb<u16>)
+    requires below { All (λ t. t.coef < p) c.now.vector }
+    requires low { All (λ t. t.at.pos + 1 < 2 ^ 64) c.now.vector }
+    ensures is { let es = entries (λ m. m) c.now.vector in (n : ℕ) → All (λ e. e.0.0 < n) es
+        → (w : List ℕ) → Says output.old w → Says output.new (w ++ spelling (map (combination_term p) (by_position n es))) }
+{
     let terms = c.vector.terms();
-    let p = space.field.characteristic();
-    let places = places_by_position(alloc, terms)?;
-    let names = primaries(alloc, space.grading.weights.len() as u64);
-    let mut text = Vec::new(alloc);
-    for i in 0..places.len() {
-        let (_, place) = places[i];
-        push_combination_term(&mut text, i == 0, p, &names, &terms[place])?;
+    let mut from = 0;
+    let mut is_first = true;
+    while let Some(position) = next_position(terms, from) {
+        put_terms_at(output, is_first, p, terms, position);
+        is_first = false;
+        from = position + 1;
     }
-    if terms.is_empty() {
-        text.push(b'0')?;
-    }
-    Ok(text)
+    put_zero(output, is_first);
 }
 
-/// The primary invariants alone, `@1` to `@n`.
-fn primaries(alloc: Global, n: u64) -> Names
-    ensures vars { result.vars ≡ [] }
-    ensures primaries { result.primaries ≡ Some n }
-    ensures irreducibles { result.irreducibles ≡ None }
+/// The nearer of a position that was found, if any, and this one, where it is not below `from`.
+fn nearer(found: Option<u64>, from: u64, position: u64) -> Option<u64>
+    ensures is { IsNearer found from position result }
 {
-    Names {
-        vars: Vec::new(alloc),
-        primaries: Some(n),
-        irreducibles: None,
+    match found {
+        Some(least) if least <= position => found,
+        _ if from <= position => Some(position),
+        _ => found,
     }
 }
 
-/// The positions of the terms and their places, by rising position, those at one position in their order.
-fn places_by_position(alloc: Global, terms: &[Term<u16, Mono>]) -> Result<Vec<(u64, usize)>, Memory>
-    ensures within { IfOk result (λ v. All (λ q. q.1 < length terms.now) v.items) }
-    ensures same { IfOk result (λ v. length v.items ≡ length terms.now) }
-    ensures order { let es = entries (λ m. m) terms.now in
-        (n : ℕ) → All (λ e. e.0.0 < n) es → (d : Entry ℕ)
-        → IfOk result (λ v. map (λ (q : ℕ × ℕ). get_or es q.1 d) v.items ≡ by_position n es) }
+/// The least position of a term that is not below `from`.
+fn next_position(terms: &[Term<u16, Mono>], from: u64) -> Option<u64>
+    ensures is { IsFirstPosition (entries (λ m. m) terms.now) from result }
 {
-    let mut places = Vec::new(alloc);
+    let mut next = None;
     for i in 0..terms.len() {
-        let term = &terms[i];
-        places.push((term.at.pos, i))?;
+        next = nearer(next, from, terms[i].at.pos);
     }
-    places.sort_by_key(|place| place.0)?;
-    Ok(places)
+    next
 }
 
-/// Appends a term of a combination over GF(p).
-fn push_combination_term(
-    text: &mut Vec<u8>,
+/// Puts the terms at a position, in their order.
+fn put_terms_at(
+    output: &mut Output,
     is_first: bool,
     p: u32,
-    names: &Names,
-    term: &Term<u16, Mono>,
-) -> Result<(), Memory>
+    terms: &[Term<u16, Mono>],
+    position: u64,
+)
+    requires below { All (λ t. t.coef < p) terms.now }
+    requires low { position + 1 < 2 ^ 64 }
+    ensures is { let ts = map (combination_term p) (at_position position (entries (λ m. m) terms.now)) in
+        (w : List ℕ) → Says output.old w → Says output.new (w ++ led is_first ts) }
+{
+    let mut first = is_first;
+    for i in 0..terms.len() {
+        let term = &terms[i];
+        if term.at.pos == position {
+            put_combination_term(output, first, p, term);
+            first = false;
+        }
+    }
+}
+
+/// Puts a term of a combination over GF(p).
+fn put_combination_term(output: &mut Output, is_first: bool, p: u32, term: &Term<u16, Mono>)
     requires below { term.now.coef < p }
     requires low { term.now.at.pos + 1 < 2 ^ 64 }
-    requires vars { names.now.vars ≡ [] }
-    requires primaries { names.now.primaries ≡ Some (length term.now.at.mono) }
-    ensures is { IfOk result (λ _. text.new.items ≡ text.old.items ++ term_text is_first (combination_term p (entry (λ m. m) term.now))) }
+    ensures is { let text = term_text is_first (combination_term p (entry (λ m. m) term.now)) in
+        (w : List ℕ) → Says output.old w → Says output.new (w ++ text) }
 {
-    push_sign(text, is_first, is_negative(p, term.coef))?;
+    put_sign(output, is_first, is_negative(p, term.coef));
     let size = absolute(p, term.coef);
-    push_coefficient(text, size)?;
-    let is_begun = push_factors(text, size != 1, names, &term.at.mono)?;
-    if is_begun {
-        text.push(b'*')?;
-    }
-    push_mark(text, Mark::Secondary, term.at.pos + 1)?;
-    Ok(())
+    put_coefficient(output, size);
+    let is_begun = put_factors(
+        output,
+        size != 1,
+        &[],
+        term.at.mono.len() as u64,
+        &term.at.mono,
+    );
+    put_star(output, is_begun);
+    put_mark(output, Mark::Secondary, term.at.pos + 1);
 }

@@ -2,20 +2,24 @@
 #![tactic(auto)]
 
 mod combinations;
+mod digits;
 mod factors;
 mod fault;
 mod laws;
 mod names;
+mod output;
 mod print;
 mod read;
 mod scan;
 mod syntax;
 mod values;
 
-pub use combinations::print_comb;
+pub use combinations::{print_comb, put_comb};
+pub use digits::Digits;
 pub use fault::TextFault;
 pub use laws::{printed_texts, trees_of_texts};
 pub use names::Names;
-pub use print::print_poly;
+pub use output::Output;
+pub use print::{print_poly, put_monomial, put_number, put_poly, put_residue};
 pub use read::read_poly;
 pub use syntax::Mark;

@@ -1,13 +1,16 @@
-ghost use Rattle.std.specs.Prelude.{◌≡◌, ◌<◌, ◌+◌, ◌^◌, ◌++◌, ◌||◌, length, IfOk, decimal, not};
+ghost use Rattle.std.specs.Prelude.{◌≡◌, ◌<◌, ◌+◌, ◌^◌, ◌++◌, ◌||◌, ◌==◌, [], ◌∷◌, ℕ, List, All, length, map, IfOk, decimal, not, if◌then◌else◌};
 ghost use Rattle.alg_core.specs.Spaces.{over, entry, entries};
 ghost use Rattle.poly_module.specs.SpaceVectors.{IsPoly};
-ghost use Rattle.poly_text.specs.Syntax.{Marked, Factor, mark_byte, variable_text, factor_text};
-ghost use Rattle.poly_text.specs.Texts.{place_count, variable_at, factors_from, is_negative, absolute, term_of, polynomial_text};
+ghost use Rattle.poly_text.specs.Outputs.{Says};
+ghost use Rattle.poly_text.specs.Syntax.{Marked, Factor, mark_byte, variable_text, factor_text, spelling};
+ghost use Rattle.poly_text.specs.Texts.{place_count, variable_in, factors_from, is_negative, absolute, residue_text, monomial_text, term_in, polynomial_text};
 ghost use Rattle.poly_text.specs.Printing.{star, joined, coefficient_text, is_none, sign_text, term_text};
 
 use crate::Names;
+use crate::digits::Digits;
+use crate::output::Output;
 use crate::syntax::Mark;
-use alg_core::{Field, Memory, Mono, Monomial, Space, Term, TermOrder};
+use alg_core::{Field, Memory, Mono, Monomial, Name, Space, Term, TermOrder};
 use poly_module::Poly;
 use prime_field::PrimeField;
 use std::alloc::Global;
@@ -25,37 +28,50 @@ pub fn print_poly<O: TermOrder>(
     ensures text { let S = over ⟦<PrimeField as Field>⟧.field O.order space.now in
         IfOk result (λ t. t.items ≡ polynomial_text S names.now (entries (λ m. m) f.now)) }
 {
-    let terms = f.terms();
-    let p = space.field.characteristic();
-    let mut text = Vec::new(alloc);
-    for i in 0..terms.len() {
-        push_term(&mut text, i == 0, p, names, &terms[i])?;
-    }
-    if terms.is_empty() {
-        text.push(b'0')?;
-    }
-    Ok(text)
+    let mut output = Output::keeping(alloc);
+    let primaries = names.primaries.unwrap_or(0);
+    put_poly(
+        &mut output,
+        space.field.characteristic(),
+        &names.vars,
+        primaries,
+        f,
+    );
+    output.finish()
 }
 
-/// Appends a term of a polynomial over GF(p).
-fn push_term(
-    text: &mut Vec<u8>,
+/// Puts the text of a polynomial over GF(p) in the named variables, then `@1` to the number of primary
+/// invariants, then the irreducible generators. The space need not be known: the terms stand as they are stored.
+pub fn put_poly(output: &mut Output, p: u32, names: &[Name], primaries: u64, f: &Poly<u16>)
+    requires below { All (λ t. t.coef < p) f.now }
+    ensures is { let terms = map (term_in names.now primaries p) (entries (λ m. m) f.now) in
+        (w : List ℕ) → Says output.old w → Says output.new (w ++ spelling terms) }
+{
+    let terms = f.terms();
+    for i in 0..terms.len() {
+        put_term(output, i == 0, p, names, primaries, &terms[i]);
+    }
+    put_zero(output, terms.is_empty());
+}
+
+/// Puts a term of a polynomial over GF(p).
+fn put_term(
+    output: &mut Output,
     is_first: bool,
     p: u32,
-    names: &Names,
+    names: &[Name],
+    primaries: u64,
     term: &Term<u16, Mono>,
-) -> Result<(), Memory>
+)
     requires below { term.now.coef < p }
-    ensures is { IfOk result (λ _. text.new.items ≡ text.old.items ++ term_text is_first (term_of names.now p (entry (λ m. m) term.now))) }
+    ensures is { let text = term_text is_first (term_in names.now primaries p (entry (λ m. m) term.now)) in
+        (w : List ℕ) → Says output.old w → Says output.new (w ++ text) }
 {
-    push_sign(text, is_first, is_negative(p, term.coef))?;
+    put_sign(output, is_first, is_negative(p, term.coef));
     let size = absolute(p, term.coef);
-    push_coefficient(text, size)?;
-    let is_begun = push_factors(text, size != 1, names, &term.at.mono)?;
-    if !is_begun {
-        text.push(b'1')?;
-    }
-    Ok(())
+    put_coefficient(output, size);
+    let is_begun = put_factors(output, size != 1, names, primaries, &term.at.mono);
+    put_one(output, is_begun);
 }
 
 /// Whether the integer of least absolute value in the class of c modulo p is negative.
@@ -77,100 +93,145 @@ pub(crate) fn absolute(p: u32, c: u16) -> u32
     }
 }
 
-/// Appends the sign of a term.
-pub(crate) fn push_sign(text: &mut Vec<u8>, is_first: bool, is_negative: bool) -> Result<(), Memory>
-    ensures is { IfOk result (λ _. text.new.items ≡ text.old.items ++ sign_text is_first is_negative) }
+/// Puts the integer from -(p-1)/2 to (p-1)/2 in the class of c modulo p; for p = 2 it is 0 or 1.
+pub fn put_residue(output: &mut Output, p: u32, c: u16)
+    requires below { c < p }
+    ensures is { (w : List ℕ) → Says output.old w → Says output.new (w ++ residue_text p c) }
+{
+    put_sign(output, true, is_negative(p, c));
+    put_number(output, u64::from(absolute(p, c)));
+}
+
+/// Puts a monomial in the named variables: its powers with `*` between them, or `1`.
+pub fn put_monomial(output: &mut Output, names: &[Name], mono: &Mono)
+    ensures is { (w : List ℕ) → Says output.old w → Says output.new (w ++ monomial_text names.now mono.now) }
+{
+    let is_begun = put_factors(output, false, names, 0, mono);
+    put_one(output, is_begun);
+}
+
+/// Puts the sign of a term.
+pub(crate) fn put_sign(output: &mut Output, is_first: bool, is_negative: bool)
+    ensures is { (w : List ℕ) → Says output.old w → Says output.new (w ++ sign_text is_first is_negative) }
 {
     if is_negative {
-        text.push(b'-')?;
+        output.put(b"-");
     } else if !is_first {
-        text.push(b'+')?;
+        output.put(b"+");
     }
-    Ok(())
 }
 
-/// Appends a coefficient before factors.
-pub(crate) fn push_coefficient(text: &mut Vec<u8>, c: u32) -> Result<(), Memory>
-    ensures is { IfOk result (λ _. text.new.items ≡ text.old.items ++ coefficient_text c) }
+/// Puts what a polynomial without terms has.
+pub(crate) fn put_zero(output: &mut Output, is_zero: bool)
+    ensures is { (w : List ℕ) → Says output.old w → Says output.new (w ++ (if is_zero then 48 ∷ [] else [])) }
+{
+    if is_zero {
+        output.put(b"0");
+    }
+}
+
+/// Puts what a term with neither a coefficient nor a factor has.
+fn put_one(output: &mut Output, is_begun: bool)
+    ensures is { (w : List ℕ) → Says output.old w → Says output.new (w ++ (if is_begun then [] else 49 ∷ [])) }
+{
+    if !is_begun {
+        output.put(b"1");
+    }
+}
+
+/// Puts what stands before a factor that is not the first of a term.
+pub(crate) fn put_star(output: &mut Output, is_begun: bool)
+    ensures is { (w : List ℕ) → Says output.old w → Says output.new (w ++ star is_begun) }
+{
+    if is_begun {
+        output.put(b"*");
+    }
+}
+
+/// Puts an exponent after its variable.
+fn put_exponent(output: &mut Output, exponent: u32)
+    ensures is { (w : List ℕ) → Says output.old w → Says output.new (w ++ (if exponent == 1 then [] else 94 ∷ decimal exponent)) }
+{
+    if exponent != 1 {
+        output.put(b"^");
+        put_number(output, u64::from(exponent));
+    }
+}
+
+/// Puts a coefficient before factors.
+pub(crate) fn put_coefficient(output: &mut Output, c: u32)
+    ensures is { (w : List ℕ) → Says output.old w → Says output.new (w ++ coefficient_text c) }
 {
     if c != 1 {
-        push_number(text, u64::from(c))?;
+        put_number(output, u64::from(c));
     }
-    Ok(())
 }
 
-/// Appends the powers of a monomial. `is_begun` says, before and after, that the term has a coefficient or a factor.
-pub(crate) fn push_factors(
-    text: &mut Vec<u8>,
+/// Puts the powers of a monomial. `is_begun` says, before and after, that the term has a coefficient or a factor.
+pub(crate) fn put_factors(
+    output: &mut Output,
     is_begun: bool,
-    names: &Names,
+    names: &[Name],
+    primaries: u64,
     mono: &Mono,
-) -> Result<bool, Memory>
-    ensures is { IfOk result (λ _. text.new.items ≡ text.old.items ++ joined is_begun (factors_from (variable_at names.now) 0 mono.now)) }
-    ensures begun { IfOk result (λ b. b ≡ (is_begun || not (is_none (factors_from (variable_at names.now) 0 mono.now)))) }
+) -> bool
+    ensures is { let factors = factors_from (variable_in names.now primaries) 0 mono.now in
+        (w : List ℕ) → Says output.old w → Says output.new (w ++ joined is_begun factors) }
+    ensures begun { result ≡ (is_begun || not (is_none (factors_from (variable_in names.now primaries) 0 mono.now))) }
 {
     let mut begun = is_begun;
     for i in 0..mono.len() {
         let exponent = mono.exp(i);
         if exponent != 0 {
-            push_factor(text, begun, names, i, exponent)?;
+            put_factor(output, begun, names, primaries, i, exponent);
             begun = true;
         }
     }
-    Ok(begun)
+    begun
 }
 
-/// Appends a power of the variable at the place i.
-fn push_factor(
-    text: &mut Vec<u8>,
+/// Puts a power of the variable at the place i.
+fn put_factor(
+    output: &mut Output,
     is_begun: bool,
-    names: &Names,
+    names: &[Name],
+    primaries: u64,
     i: usize,
     exponent: u32,
-) -> Result<(), Memory>
+)
     requires small { i + 1 < 2 ^ 64 }
-    ensures is { let f : Factor = record { variable = variable_at names.now i; exponent = exponent } in
-        IfOk result (λ _. text.new.items ≡ text.old.items ++ (star is_begun ++ factor_text f)) }
+    ensures is { let f : Factor = record { variable = variable_in names.now primaries i; exponent = exponent } in
+        (w : List ℕ) → Says output.old w → Says output.new (w ++ (star is_begun ++ factor_text f)) }
 {
-    if is_begun {
-        text.push(b'*')?;
-    }
-    push_variable(text, names, i)?;
-    if exponent != 1 {
-        text.push(b'^')?;
-        push_number(text, u64::from(exponent))?;
-    }
-    Ok(())
+    put_star(output, is_begun);
+    put_variable(output, names, primaries, i);
+    put_exponent(output, exponent);
 }
 
-/// Appends the variable at the place i.
-fn push_variable(text: &mut Vec<u8>, names: &Names, i: usize) -> Result<(), Memory>
+/// Puts the variable at the place i.
+fn put_variable(output: &mut Output, names: &[Name], primaries: u64, i: usize)
     requires small { i + 1 < 2 ^ 64 }
-    ensures is { IfOk result (λ _. text.new.items ≡ text.old.items ++ variable_text (variable_at names.now i)) }
+    ensures is { (w : List ℕ) → Says output.old w → Says output.new (w ++ variable_text (variable_in names.now primaries i)) }
 {
-    let count = names.vars.len();
-    if i < count {
-        let name = &names.vars[i];
-        text.extend_from_slice(name.bytes())?;
-        return Ok(());
+    if i < names.len() {
+        let name = &names[i];
+        output.put(name.bytes());
+        return;
     }
-    let place = (i - count) as u64;
-    let primaries = names.primaries.unwrap_or(0);
+    let place = (i - names.len()) as u64;
     if place < primaries {
-        push_mark(text, Mark::Primary, place + 1)?;
+        put_mark(output, Mark::Primary, place + 1);
     } else {
-        push_mark(text, Mark::Irreducible, place - primaries + 1)?;
+        put_mark(output, Mark::Irreducible, place - primaries + 1);
     }
-    Ok(())
 }
 
-/// Appends the variable with a sign and an index.
-pub(crate) fn push_mark(text: &mut Vec<u8>, mark: Mark, index: u64) -> Result<(), Memory>
-    ensures is { IfOk result (λ _. text.new.items ≡ text.old.items ++ variable_text (Marked mark index)) }
+/// Puts the variable with a sign and an index.
+pub(crate) fn put_mark(output: &mut Output, mark: Mark, index: u64)
+    ensures is { (w : List ℕ) → Says output.old w → Says output.new (w ++ variable_text (Marked mark index)) }
 {
-    text.push(byte_of(mark))?;
-    push_number(text, index)?;
-    Ok(())
+    output.put(&[byte_of(mark)]);
+    put_number(output, index);
 }
 
 /// The sign of a list.
@@ -184,12 +245,10 @@ fn byte_of(mark: Mark) -> u8
     }
 }
 
-/// Appends the number in decimal.
-fn push_number(text: &mut Vec<u8>, n: u64) -> Result<(), Memory>
-    ensures is { IfOk result (λ _. text.new.items ≡ text.old.items ++ decimal n) }
+/// Puts the number in decimal.
+pub fn put_number(output: &mut Output, n: u64)
+    ensures is { (w : List ℕ) → Says output.old w → Says output.new (w ++ decimal n) }
 {
-    let alloc = *text.allocator();
-    let digits = format!(in alloc; "{n}")?;
-    text.extend_from_slice(digits.as_bytes())?;
-    Ok(())
+    let digits = Digits::of(u128::from(n));
+    output.put(digits.as_slice());
 }

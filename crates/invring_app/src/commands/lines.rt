@@ -6,10 +6,9 @@ ghost use Rattle.poly_module.specs.SpaceVectors.{ArePolys};
 ghost use Rattle.poly_text.specs.Texts.{place_count};
 ghost use Rattle.invring_app.specs.Lines.{polynomial_lines, power_line, power_lines};
 
-use crate::digits::Digits;
 use alg_core::{Dp, Field, Memory, Name, Space, TermOrder};
 use poly_module::Poly;
-use poly_text::{Names, print_poly};
+use poly_text::{Digits, Names, print_poly};
 use prime_field::PrimeField;
 use std::alloc::Global;
 

@@ -8,12 +8,12 @@ ghost use Rattle.invring_app.specs.Answers.{IsAnswer, IsFault};
 ghost use Rattle.invring_app.specs.Endings.{Answers};
 
 use crate::commands::Command;
-use crate::digits::Digits;
 use crate::fault::Fault;
 use crate::field::field_of;
 use alg_core::{Limits, Memory};
 use finvar_text::{Script, read_script};
 use matrix_group::{GroupFault, enumerate};
+use poly_text::Digits;
 use std::alloc::Global;
 
 /// The number in decimal, and a newline.

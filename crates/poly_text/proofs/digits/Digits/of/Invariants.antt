@@ -1,5 +1,5 @@
-use Rattle.invring_app.proofs.DigitLaws.{Placed}
-use Rattle.invring_app.proofs.digits.Digits.of.Given as goal
+use Rattle.poly_text.proofs.DigitLaws.{Placed}
+use Rattle.poly_text.proofs.digits.Digits.of.Given as goal
 
 abbrev pub invariant-loop-rest : goal.invariant-loop-rest
 invariant-loop-rest l = Placed l.number l.rest l.start l.bytes

@@ -1,20 +1,31 @@
-ghost use Rattle.std.specs.Prelude.{◌≡◌, ◌≤◌, decimal, drop};
+use std::marker::Model;
 
 /// How many digits the greatest number has.
 const MOST: usize = 39;
 
 /// The digits of a number in decimal: the last bytes, from a place on. They take no memory.
-#[derive(Clone, Copy)]
-pub(crate) struct Digits {
+#[derive(Drop)]
+pub struct Digits {
     bytes: [u8; MOST],
     start: usize,
 }
 
+impl Model for Digits {
+    ghost use Rattle.std.specs.Prelude.{ℕ, List, ◌≤◌, drop};
+
+    ghost Value = { List ℕ };
+
+    ghost view = { λ d. drop d.start d.bytes };
+
+    ghost invariant = { λ d. d.start ≤ 39 };
+}
+
 impl Digits {
+    ghost use Rattle.std.specs.Prelude.{◌≡◌, decimal};
+
     /// The digits of this number.
     pub fn of(number: u128) -> Digits
-        ensures start { result.start ≤ 39 }
-        ensures is { drop result.start result.bytes ≡ decimal number }
+        ensures is { result ≡ decimal number }
     {
         let mut bytes = [b'0'; MOST];
         let mut start = MOST;
@@ -29,9 +40,9 @@ impl Digits {
         Digits { bytes, start }
     }
 
+    /// The digits, from the first one.
     pub fn as_slice(&self) -> &[u8]
-        requires start { self.now.start ≤ 39 }
-        ensures is { result.now ≡ drop self.now.start self.now.bytes }
+        ensures is { result.now ≡ self.now }
     {
         &self.bytes[self.start..]
     }

@@ -1,6 +1,6 @@
 use Rattle.std.proofs.Common.{refl, arith}
-use Rattle.invring_app.proofs.DigitLaws.{Placed-none, Placed-some, Placed-more, Placed-all}
-use Rattle.invring_app.proofs.digits.Digits.of.Goals as goal
+use Rattle.poly_text.proofs.DigitLaws.{Placed-none, Placed-some, Placed-more, Placed-all}
+use Rattle.poly_text.proofs.digits.Digits.of.Goals as goal
 
 pub loop-rest-init : goal.loop-rest-init
 loop-rest-init c = Placed-none c.args.number _ (omega arith) refl
@@ -14,5 +14,5 @@ overflow_sub-start-2 c = Placed-some _ _ _ _ (omega arith) c.loop-rest.invariant
 pub loop-rest-preserved : goal.loop-rest-preserved
 loop-rest-preserved c = Placed-more _ _ _ _ (omega arith) (omega arith) c.loop-rest.invariant
 
-pub returns-clause-is : goal.returns-clause-is
-returns-clause-is c = Placed-all _ _ _ _ (omega arith) c.loop-rest.invariant
+pub returns : goal.returns
+returns c = record { is = Placed-all _ _ _ _ (omega arith) c.loop-rest.invariant }
