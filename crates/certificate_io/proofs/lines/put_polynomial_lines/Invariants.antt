@@ -1,0 +1,7 @@
+use Rattle.std.proofs.Common.{List, ℕ, ◌++◌, map, take}
+use Rattle.poly_text.specs.Outputs.{Says}
+use Rattle.certificate_io.specs.Texts.{ended, polynomial_line}
+use Rattle.certificate_io.proofs.lines.put_polynomial_lines.Given as goal
+
+abbrev pub invariant-loop-i : goal.invariant-loop-i
+invariant-loop-i l = (w : List ℕ) → Says l.initial.output w → Says l.output (w ++ ended (map (polynomial_line l.word l.p l.names l.primaries) (take l.i l.polynomials)))
