@@ -1,0 +1,11 @@
+pub mod AveragesGenerate
+pub mod HoldsParts
+pub mod HoldsComplete
+pub mod HoldsProperties
+pub mod MadePlaces
+pub mod MadeForms
+pub mod MadeLifts
+pub mod MadePowers
+pub mod MadeHolds
+pub mod MadeLists
+pub mod MadeOnce
