@@ -97,7 +97,7 @@ module _ {E : Type 0} (S : SpaceOver E) (d : ℕ) where
   unfolding degree weight height monomials
   position_degree = let w : weight S.weights 0 monomials.one.0 ≡ 0 = refl in let h : height (0 ∷ d ∷ []) 1 ≡ d = refl in omega arith
 
-  position_homogeneous : IsHomogeneous (colon_space S d) d (position_vector S.field)
+  pub position_homogeneous : IsHomogeneous (colon_space S d) d (position_vector S.field)
   unfolding position_vector
   position_homogeneous = supp_single S.field (λ t. degree (colon_space S d) t ≡ d) (1, monomials.one) position_degree
 
@@ -109,7 +109,7 @@ module _ {E : Type 0} (S : SpaceOver E) (d : ℕ) where
       omega arith
 
   module _ (shift : height S.shifts 0 ≡ 0) where
-    same_degree : (e : ℕ) (v : Vect S.field) → IsPolynomial S.field v → IsHomogeneous S e v → IsHomogeneous (colon_space S d) e v
+    pub same_degree : (e : ℕ) (v : Vect S.field) → IsPolynomial S.field v → IsHomogeneous S e v → IsHomogeneous (colon_space S d) e v
     same_degree e v p h = form_homogeneous T no_shift e v (homogeneous_form S shift e v p h)
 
     module _ (f : Terms E) (θ : List (Terms E)) (small : d ≤ degree_limit) (poly : IsHomogeneousPoly S degree_limit f) (has_degree : IsHomogeneous S d (vector_of S (λ m. m) f)) (polys : AreHomogeneousPolys S degree_limit θ) where

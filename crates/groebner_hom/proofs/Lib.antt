@@ -3,6 +3,8 @@ pub mod ColonModules
 pub mod ColonGenerators
 pub mod ColonBases
 pub mod SecondParts
+pub mod InsideLaws
+pub mod InsideSteps
 pub mod NonzerodivisorSteps
 pub mod PowerBounds
 pub mod ExponentSteps

@@ -13,20 +13,23 @@
 --                             shift d, and no element of the module is above the cap
 --   NoColonAbove S θ f cap    the colon module has no element above the cap, where f is homogeneous: its reduced basis has no
 --                             member of a degree over it
+--   KeepsLead S T p           a lead by the order of the space T of the vector with the terms p divides its lead by that of S
 --   IsColonBound S θ f cap b  b names an element of the colon module above the cap, of the least degree
 use Rattle.std.specs.Prelude.{◌≡◌, ◌↔◌, ℕ, List, [], ◌∷◌, map}
 use Rattle.alg_core.specs.EliminationOrder.{elimination_order}
 use Rattle.alg_core.specs.Fields.{FieldOn}
+use Rattle.alg_core.specs.Keys.{Key, KeyDivides}
 use Rattle.alg_core.specs.declared.term.Term.{Term}
+use Rattle.alg_core.specs.SpaceOrder.{key_order}
 use Rattle.alg_core.specs.Spaces.{SpaceOver}
 use Rattle.alg_core.specs.Vectors.{Vect, plus}
 use Rattle.poly_module.specs.Degrees.{IsHomogeneous}
-use Rattle.poly_module.specs.Modules.{InModule, listed}
+use Rattle.poly_module.specs.Modules.{InModule, LeadBy, listed}
 use Rattle.poly_module.specs.Parts.{IsPolynomial}
 use Rattle.poly_module.specs.Polynomials.{product}
 use Rattle.poly_module.specs.ReducedLists.{IsReducedBasisOf}
 use Rattle.poly_module.specs.Signs.{minus}
-use Rattle.poly_module.specs.SpaceVectors.{AreVectors, vectors_of}
+use Rattle.poly_module.specs.SpaceVectors.{AreVectors, vector_of, vectors_of}
 use Rattle.poly_module.specs.Substitutions.{position_vector}
 use Rattle.module_groebner.specs.declared.bound.BasisBound.{BasisBound}
 use Rattle.module_groebner.specs.declared.bound.Which.TheVariants.{Colon}
@@ -81,3 +84,11 @@ module _ {E : Type 0} (S : SpaceOver E) where
 
     abbrev pub IsColonBound : BasisBound E → Type 0
     IsColonBound b = (d : ℕ) × IsHomogeneous S d f × IsBasisBound (colon_space d) (InColon S.field θ f) cap Colon b
+
+-- leads by two orders
+pub record KeepsLead {E : Type 0} (S T : SpaceOver E) (p : List (Term E (List ℕ))) : Type 0 where
+  pub own : Key
+  pub other : Key
+  pub own_lead : LeadBy S.field (key_order S) (vector_of S (λ m. m) p) own
+  pub other_lead : LeadBy T.field (key_order T) (vector_of T (λ m. m) p) other
+  pub divides : KeyDivides other own

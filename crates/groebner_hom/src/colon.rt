@@ -22,7 +22,7 @@ use poly_module::{Poly, Vector, add, degree, make, single};
 use std::alloc::Global;
 
 /// The degree of a homogeneous polynomial other than 0.
-fn form_degree<F: Field, O: TermOrder>(space: &Space<F, O>, f: &Poly<F::Elem>) -> u32
+pub(crate) fn form_degree<F: Field, O: TermOrder>(space: &Space<F, O>, f: &Poly<F::Elem>) -> u32
     requires polynomial { IsHomogeneousPoly (over F.field O.order space.now) degree_limit f.now }
     requires not_zero { let S = over F.field O.order space.now in ¬ (vector_of S (λ m. m) f.now ≡ zero_vector S.field) }
     ensures is { let S = over F.field O.order space.now in IsHomogeneous S result (vector_of S (λ m. m) f.now) }
@@ -35,7 +35,7 @@ fn form_degree<F: Field, O: TermOrder>(space: &Space<F, O>, f: &Poly<F::Elem>) -
 
 /// The polynomials of the space at two positions, of the shifts 0 and `degree`: the first is the first
 /// block of the elimination order.
-fn pair_space<F: Field, O: TermOrder>(
+pub(crate) fn pair_space<F: Field, O: TermOrder>(
     alloc: Global,
     space: &Space<F, O>,
     degree: u32,

@@ -1,6 +1,7 @@
 //! Ideals of homogeneous polynomials: their bases, membership, nonzerodivisors and lifts.
 #![tactic(auto)]
 
+mod by_basis;
 mod colon;
 mod exponents;
 mod ideal;
@@ -9,6 +10,7 @@ mod least_powers;
 mod lifts;
 mod nonzerodivisor;
 
+pub use by_basis::is_nonzerodivisor_by_basis;
 pub use exponents::least_exponents;
 pub use ideal::{ideal_basis, member};
 pub use laws::{colon_modules, ideals_with_marks, regular_forms};

@@ -1,21 +1,49 @@
-ghost use Rattle.std.specs.Prelude.{◌≡◌, ◌↔◌, ◌≤◌, ◌⊎◌, Err, IfOk, IsTrue};
+ghost use Rattle.std.specs.Prelude.{◌≡◌, ◌↔◌, ◌≤◌, ◌⊎◌, Err, IfOk, IsTrue, All};
 ghost use Rattle.alg_core.specs.SpaceGrading.{height};
+ghost use Rattle.alg_core.specs.SpaceOrder.{key_order};
 ghost use Rattle.alg_core.specs.Spaces.{over};
 ghost use Rattle.alg_core.specs.Vectors.{zero_vector};
-ghost use Rattle.poly_module.specs.SpaceVectors.{IsPositive, vector_of, vectors_of};
+ghost use Rattle.poly_module.specs.Modules.{listed, IsGroebnerBasis};
+ghost use Rattle.poly_module.specs.SpaceVectors.{IsPositive, ArePolys, vector_of, vectors_of};
 ghost use Rattle.module_groebner.specs.declared.bound.BasisBound.{BasisBound};
 ghost use Rattle.module_groebner.specs.declared.bound.BasisFault.TheVariants as faults;
-ghost use Rattle.module_groebner.specs.HomogeneousLists.{degree_limit, cap_limit};
-ghost use Rattle.finite_certificate.specs.Ideals.{Nonzerodivisor};
+ghost use Rattle.module_groebner.specs.HomogeneousLists.{degree_limit, cap_limit, AreUpTo, AreNonzero};
+ghost use Rattle.finite_certificate.specs.Ideals.{InIdeal, Nonzerodivisor};
 ghost use Rattle.groebner_hom.specs.IdealBases.{IsHomogeneousPoly, AreHomogeneousPolys, NoIdealAbove, IsIdealBound};
 ghost use Rattle.groebner_hom.specs.Colons.{NoColonAbove, IsColonBound};
 
 use crate::colon::colon_ideal;
 use crate::ideal::{ideal_basis, member};
-use alg_core::{Field, Space, TermOrder};
+use alg_core::{Field, Memory, Space, TermOrder};
 use module_groebner::BasisFault;
 use poly_module::Poly;
 use std::alloc::Global;
+
+/// Whether each of the polynomials lies in the ideal of the Gröbner basis.
+pub(crate) fn are_members<F: Field, O: TermOrder>(
+    alloc: Global,
+    space: &Space<F, O>,
+    basis: &[Poly<F::Elem>],
+    list: &[Poly<F::Elem>],
+) -> Result<bool, Memory>
+    requires positive { IsPositive (over F.field O.order space.now) }
+    requires polynomials { AreHomogeneousPolys (over F.field O.order space.now) degree_limit basis.now }
+    requires nonzero { let S = over F.field O.order space.now in AreNonzero S.field (vectors_of S (λ m. m) basis.now) }
+    requires basis { let S = over F.field O.order space.now in
+        IsGroebnerBasis S.field (listed S.field (vectors_of S (λ m. m) basis.now)) (key_order S) }
+    requires list { ArePolys (over F.field O.order space.now) (λ m. m) list.now }
+    requires degrees { let S = over F.field O.order space.now in AreUpTo S degree_limit (vectors_of S (λ m. m) list.now) }
+    ensures exact { let S = over F.field O.order space.now in let of = vectors_of S (λ m. m) in
+        IfOk result (λ b. IsTrue b ↔ All (InIdeal S.field (of basis.now)) (of list.now)) }
+{
+    for i in 0..list.len() {
+        let p = &list[i];
+        if !member(alloc, space, basis, p)? {
+            return Ok(false);
+        }
+    }
+    Ok(true)
+}
 
 /// Whether f, which is not 0, is a nonzerodivisor modulo the ideal of theta: whether each polynomial
 /// whose product with f lies in the ideal lies there itself. Above comes exactly where the reduced basis
@@ -47,11 +75,6 @@ pub fn is_nonzerodivisor<F: Field, O: TermOrder>(
 {
     let colon = colon_ideal(alloc, space, f, theta, cap)?;
     let basis = ideal_basis(alloc, space, theta, cap)?;
-    for i in 0..colon.len() {
-        let h = &colon[i];
-        if !member(alloc, space, basis.as_slice(), h)? {
-            return Ok(false);
-        }
-    }
-    Ok(true)
+    let all = are_members(alloc, space, basis.as_slice(), colon.as_slice())?;
+    Ok(all)
 }

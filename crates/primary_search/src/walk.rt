@@ -17,7 +17,7 @@ use crate::candidates::CandidateList;
 use crate::ended::powerless_variable;
 use crate::taken::Taken;
 use alg_core::{Field, Limits, Memory, Space, TermOrder};
-use groebner_hom::{ideal_basis, is_nonzerodivisor};
+use groebner_hom::{ideal_basis, is_nonzerodivisor_by_basis};
 use module_groebner::BasisFault;
 use poly_module::{Poly, copy};
 use std::alloc::Global;
@@ -66,7 +66,7 @@ fn offer<F: Field, O: TermOrder>(
         → IsStop S limits.now.max_basis (of taken.old.members.items) (vector_of S (λ m. m) candidate ∷ []) b }
 {
     let cap = limits.max_basis;
-    if !is_nonzerodivisor(alloc, space, &candidate, taken.basis.as_slice(), cap)? {
+    if !is_nonzerodivisor_by_basis(alloc, space, &candidate, taken.basis.as_slice(), cap)? {
         return Ok(false);
     }
     append(&mut taken.basis, copy(alloc, &candidate)?)?;

@@ -1,31 +1,48 @@
 use Rattle.std.proofs.Common.{◌⊎◌, ◌∙◌, ◌++◌, [], ◌∷◌, Err, refl, sym, ap, subst, arith}
 use Rattle.std.specs.Prelude.{IsTrue, ◌↔◌}
+use Rattle.alg_core.specs.SpaceOrder.{key_order}
 use Rattle.alg_core.specs.Spaces.{over}
+use Rattle.poly_module.specs.Modules.{listed, IsGroebnerBasis}
 use Rattle.poly_module.specs.SpaceVectors.{vector_of, vectors_of}
-use Rattle.module_groebner.specs.HomogeneousLists.{degree_limit}
-use Rattle.finite_certificate.specs.Ideals.{Nonzerodivisor}
+use Rattle.module_groebner.specs.HomogeneousLists.{degree_limit, AreNonzero}
+use Rattle.finite_certificate.specs.Ideals.{InIdeal, Nonzerodivisor}
 use Rattle.groebner_hom.specs.Colons.{NoColonAbove, IsColonBound}
 use Rattle.groebner_hom.specs.IdealBases.{AreHomogeneousPolys, IsIdealBound}
+use Rattle.poly_module.proofs.Reduced.{reduced_is_basis}
 use Rattle.groebner_hom.proofs.NonzerodivisorSteps.{polys_weaken}
+use Rattle.groebner_hom.proofs.PolynomialLists.{members_nonzero}
 use Rattle.groebner_hom.proofs.SecondParts.{not_true}
 use Rattle.primary_search.proofs.KeptLaws.{copy_homogeneous, homogeneous_more}
 use Rattle.primary_search.proofs.KeptSteps.{kept_colon, kept_nonzerodivisor, kept_passed, kept_colon_stop, taken_whole, grown_ideal, grown_reduced, grown_stop}
 use Rattle.primary_search.proofs.OfferSteps.{told, offer_taken, offer_last, outcome, polys_push}
 use Rattle.primary_search.proofs.walk.offer.Goals as goal
 
-pub is_nonzerodivisor-requires-clause-polynomials : goal.is_nonzerodivisor-requires-clause-polynomials
-is_nonzerodivisor-requires-clause-polynomials g c =
+pub is_nonzerodivisor_by_basis-requires-clause-polynomials : goal.is_nonzerodivisor_by_basis-requires-clause-polynomials
+is_nonzerodivisor_by_basis-requires-clause-polynomials g c =
     let S = over g.F.Field.field g.O.TermOrder.order c.args.space.now in
-    let low = c.requires.limits.max_basis.below in
-    subst (AreHomogeneousPolys S degree_limit) (sym c.as_slice.ensures.value) (polys_weaken S c.args.limits.now.max_basis degree_limit c.args.taken.now.basis.items (omega arith) c.requires.kept.polynomials)
+    subst (AreHomogeneousPolys S c.args.limits.now.max_basis) (sym c.as_slice.ensures.value) c.requires.kept.polynomials
 
-pub returns-in_err-is_nonzerodivisor-clause-stop : goal.returns-in_err-is_nonzerodivisor-clause-stop
-returns-in_err-is_nonzerodivisor-clause-stop g c = λ b e.
+pub is_nonzerodivisor_by_basis-requires-clause-nonzero : goal.is_nonzerodivisor_by_basis-requires-clause-nonzero
+is_nonzerodivisor_by_basis-requires-clause-nonzero g c =
+    let S = over g.F.Field.field g.O.TermOrder.order c.args.space.now in
+    let xs = vectors_of S (λ m. m) in
+    subst (λ l. AreNonzero S.field (xs l)) (sym c.as_slice.ensures.value)
+    (members_nonzero S (InIdeal S.field (xs c.args.taken.now.members.items)) (xs c.args.taken.now.basis.items) c.requires.kept.reduced)
+
+pub is_nonzerodivisor_by_basis-requires-clause-basis : goal.is_nonzerodivisor_by_basis-requires-clause-basis
+is_nonzerodivisor_by_basis-requires-clause-basis g c =
+    let S = over g.F.Field.field g.O.TermOrder.order c.args.space.now in
+    let xs = vectors_of S (λ m. m) in
+    subst (λ l. IsGroebnerBasis S.field (listed S.field (xs l)) (key_order S)) (sym c.as_slice.ensures.value)
+    (reduced_is_basis S (listed S.field (xs c.args.taken.now.members.items)) (xs c.args.taken.now.basis.items) c.requires.kept.reduced)
+
+pub returns-in_err-is_nonzerodivisor_by_basis-clause-stop : goal.returns-in_err-is_nonzerodivisor_by_basis-clause-stop
+returns-in_err-is_nonzerodivisor_by_basis-clause-stop g c = λ b e.
     let S = over g.F.Field.field g.O.TermOrder.order c.args.space.now in
     let xs = vectors_of S (λ m. m) in
     let v = vector_of S (λ m. m) c.args.candidate in
     let most = c.args.limits.now.max_basis in
-    let above = c.in_err-is_nonzerodivisor.ensures.above b (ap (λ x. Err x) (told c.from_residual.result c.in_err-is_nonzerodivisor.field-0.0 c.from_residual.ensures.1 b e)) in
+    let above = c.in_err-is_nonzerodivisor_by_basis.ensures.above b (ap (λ x. Err x) (told c.from_residual.result c.in_err-is_nonzerodivisor_by_basis.field-0.0 c.from_residual.ensures.1 b e)) in
     kept_colon_stop S most c.args.taken.now.members.items c.args.taken.now.basis.items c.requires.kept v b c.requires.ideal
     (subst (λ l. IsColonBound S (xs l) v most b ⊎ (NoColonAbove S (xs l) v most × IsIdealBound S (xs l) most b)) c.as_slice.ensures.value above)
 
@@ -36,10 +53,10 @@ returns-then-not-branch-clause-passes g c = λ same.
     let v = vector_of S (λ m. m) c.args.candidate in
     let most = c.args.limits.now.max_basis in
     let bs = c.args.taken.now.basis.items in
-    let found = c.in_ok-is_nonzerodivisor.ensures in
-    let exact : IsTrue c.in_ok-is_nonzerodivisor.field-0 ↔ Nonzerodivisor S.field (xs bs) v = subst (λ l. IsTrue c.in_ok-is_nonzerodivisor.field-0 ↔ Nonzerodivisor S.field (xs l) v) c.as_slice.ensures.value found.exact in
+    let found = c.in_ok-is_nonzerodivisor_by_basis.ensures in
+    let exact : IsTrue c.in_ok-is_nonzerodivisor_by_basis.field-0 ↔ Nonzerodivisor S.field (xs bs) v = subst (λ l. IsTrue c.in_ok-is_nonzerodivisor_by_basis.field-0 ↔ Nonzerodivisor S.field (xs l) v) c.as_slice.ensures.value found.exact in
     kept_passed S most c.args.taken.now.members.items bs c.requires.kept v (subst (λ l. NoColonAbove S (xs l) v most) c.as_slice.ensures.value found.colon_within)
-    (λ n. not_true c.in_ok-is_nonzerodivisor.field-0 c.if-not-branch.true (exact.1 n))
+    (λ n. not_true c.in_ok-is_nonzerodivisor_by_basis.field-0 c.if-not-branch.true (exact.1 n))
 
 pub ideal_basis-requires-clause-polynomials : goal.ideal_basis-requires-clause-polynomials
 ideal_basis-requires-clause-polynomials g c =
@@ -60,8 +77,8 @@ returns-in_err-basis-clause-stop g c = λ b e.
     let T = c.args.taken.now.members.items in
     let bs = c.args.taken.now.basis.items in
     let most = c.args.limits.now.max_basis in
-    let found = c.in_ok-is_nonzerodivisor.ensures in
-    let exact : IsTrue c.in_ok-is_nonzerodivisor.field-0 ↔ Nonzerodivisor S.field (xs bs) v = subst (λ l. IsTrue c.in_ok-is_nonzerodivisor.field-0 ↔ Nonzerodivisor S.field (xs l) v) c.as_slice.ensures.value found.exact in
+    let found = c.in_ok-is_nonzerodivisor_by_basis.ensures in
+    let exact : IsTrue c.in_ok-is_nonzerodivisor_by_basis.field-0 ↔ Nonzerodivisor S.field (xs bs) v = subst (λ l. IsTrue c.in_ok-is_nonzerodivisor_by_basis.field-0 ↔ Nonzerodivisor S.field (xs l) v) c.as_slice.ensures.value found.exact in
     let colon = subst (λ l. NoColonAbove S (xs l) v most) c.as_slice.ensures.value found.colon_within in
     let above = c.in_err-basis.ensures.above b (ap (λ x. Err x) (told c.from_residual-in_err-basis.result c.in_err-basis.field-0.0 c.from_residual-in_err-basis.ensures.1 b e)) in
     grown_stop S most T bs c.requires.kept c.args.candidate c.in_ok-copy.field-0 c.in_ok-copy.ensures.same c.as_slice-2.result.now (T ++ c.args.candidate ∷ []) (c.as_slice-2.ensures.value ∙ c.in_ok-append.ensures.items) refl colon
@@ -114,8 +131,8 @@ returns-clause-passes g c = λ f.
     let reduced = grown_reduced S most T bs c.requires.kept c.args.candidate c.in_ok-copy.field-0 c.in_ok-copy.ensures.same c.as_slice-2.result.now V seen c.in_ok-append-2.ensures.items basis c.in_ok-basis.ensures.reduced in
     let end = outcome S c.requires.positive c.requires.weights c.requires.shift (xs V) most basis c.in_ok-basis.ensures.polynomials reduced c.as_slice-3.result.now c.powerless_variable.result c.is_none.result
     c.as_slice-3.ensures.value c.is_none.ensures c.powerless_variable.ensures.none c.powerless_variable.ensures.some in
-    let found = c.in_ok-is_nonzerodivisor.ensures in
-    let exact : IsTrue c.in_ok-is_nonzerodivisor.field-0 ↔ Nonzerodivisor S.field (xs bs) v = subst (λ l. IsTrue c.in_ok-is_nonzerodivisor.field-0 ↔ Nonzerodivisor S.field (xs l) v) c.as_slice.ensures.value found.exact in
+    let found = c.in_ok-is_nonzerodivisor_by_basis.ensures in
+    let exact : IsTrue c.in_ok-is_nonzerodivisor_by_basis.field-0 ↔ Nonzerodivisor S.field (xs bs) v = subst (λ l. IsTrue c.in_ok-is_nonzerodivisor_by_basis.field-0 ↔ Nonzerodivisor S.field (xs l) v) c.as_slice.ensures.value found.exact in
     let colon = kept_colon S most T bs c.requires.kept v (subst (λ l. NoColonAbove S (xs l) v most) c.as_slice.ensures.value found.colon_within) in
     let nonzero = kept_nonzerodivisor S most T bs c.requires.kept v (exact.0 c.if-not-branch.false) in
     let whole = taken_whole S most T bs c.requires.kept c.args.candidate c.in_ok-copy.field-0 c.in_ok-copy.ensures.same c.as_slice-2.result.now V seen c.in_ok-append-2.ensures.items in
@@ -136,8 +153,8 @@ returns-clause-last g c = λ t.
     let reduced = grown_reduced S most T bs c.requires.kept c.args.candidate c.in_ok-copy.field-0 c.in_ok-copy.ensures.same c.as_slice-2.result.now V seen c.in_ok-append-2.ensures.items basis c.in_ok-basis.ensures.reduced in
     let end = outcome S c.requires.positive c.requires.weights c.requires.shift (xs V) most basis c.in_ok-basis.ensures.polynomials reduced c.as_slice-3.result.now c.powerless_variable.result c.is_none.result
     c.as_slice-3.ensures.value c.is_none.ensures c.powerless_variable.ensures.none c.powerless_variable.ensures.some in
-    let found = c.in_ok-is_nonzerodivisor.ensures in
-    let exact : IsTrue c.in_ok-is_nonzerodivisor.field-0 ↔ Nonzerodivisor S.field (xs bs) v = subst (λ l. IsTrue c.in_ok-is_nonzerodivisor.field-0 ↔ Nonzerodivisor S.field (xs l) v) c.as_slice.ensures.value found.exact in
+    let found = c.in_ok-is_nonzerodivisor_by_basis.ensures in
+    let exact : IsTrue c.in_ok-is_nonzerodivisor_by_basis.field-0 ↔ Nonzerodivisor S.field (xs bs) v = subst (λ l. IsTrue c.in_ok-is_nonzerodivisor_by_basis.field-0 ↔ Nonzerodivisor S.field (xs l) v) c.as_slice.ensures.value found.exact in
     let colon = kept_colon S most T bs c.requires.kept v (subst (λ l. NoColonAbove S (xs l) v most) c.as_slice.ensures.value found.colon_within) in
     let nonzero = kept_nonzerodivisor S most T bs c.requires.kept v (exact.0 c.if-not-branch.false) in
     let whole = taken_whole S most T bs c.requires.kept c.args.candidate c.in_ok-copy.field-0 c.in_ok-copy.ensures.same c.as_slice-2.result.now V seen c.in_ok-append-2.ensures.items in

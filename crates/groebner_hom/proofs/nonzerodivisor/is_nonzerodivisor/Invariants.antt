@@ -1,7 +1,0 @@
-use Rattle.alg_core.specs.Spaces.{over}
-use Rattle.poly_module.specs.SpaceVectors.{vectors_of}
-use Rattle.groebner_hom.proofs.NonzerodivisorSteps.{FirstInside}
-use Rattle.groebner_hom.proofs.nonzerodivisor.is_nonzerodivisor.Given as goal
-
-abbrev pub invariant-loop-i : goal.invariant-loop-i
-invariant-loop-i g l = let S = over g.F.Field.field g.O.TermOrder.order l.space in FirstInside S (vectors_of S (λ m. m) l.theta) l.colon.items l.i
