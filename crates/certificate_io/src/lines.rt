@@ -86,7 +86,8 @@ fn put_polynomial_line(
     f: &Poly<u16>,
 )
     requires below { HasClasses p f.now }
-    ensures is { (w : List ℕ) → Says output.old w → Says output.new (w ++ ended (polynomial_line word.now p names.now primaries f.now ∷ [])) }
+    ensures is { (w : List ℕ) → Says output.old w
+        → Says output.new (w ++ ended (polynomial_line word.now p names.now primaries f.now ∷ [])) }
 {
     output.put(word);
     output.put(b" ");
@@ -122,7 +123,8 @@ fn put_power_line(
     power: &Power<u16>,
 )
     requires below { HasClasses p power.now.form }
-    ensures is { (w : List ℕ) → Says output.old w → Says output.new (w ++ ended (power_line p names.now primaries name.now power.now ∷ [])) }
+    ensures is { (w : List ℕ) → Says output.old w
+        → Says output.new (w ++ ended (power_line p names.now primaries name.now power.now ∷ [])) }
 {
     output.put(b"power ");
     output.put(name.bytes());

@@ -31,8 +31,8 @@ pub fn free_modules<F: Field>(_space: &Space<F, BlockOrder>)
 /// Coordinates are additive, and over positive forms a multiple by a polynomial in these has the multiple
 /// by that polynomial in the marks as coordinates.
 pub fn coordinate_laws<F: Field>(_field: &F)
-    ensures sum { let k = F.field _field.now in (n : ℕ) (θ : List (Vect k)) (f g u v : Vect k) → IsCoordinates k n θ f u → IsCoordinates k n θ g v
-        → IsCoordinates k n θ (plus k f g) (plus k u v) }
+    ensures sum { let k = F.field _field.now in (n : ℕ) (θ : List (Vect k)) (f g u v : Vect k)
+        → IsCoordinates k n θ f u → IsCoordinates k n θ g v → IsCoordinates k n θ (plus k f g) (plus k u v) }
     ensures multiple { let k = F.field _field.now in (n : ℕ) (θ : List (Vect k)) (c : F.Elem) (f u : Vect k) → IsCoordinates k n θ f u
         → IsCoordinates k n θ (scale k c f) (scale k c u) }
     ensures marks { let k = F.field _field.now in (n : ℕ) (θ : List (Vect k)) (ds : List ℕ) → ArePositiveForms k n ds θ
