@@ -1,0 +1,11 @@
+pub mod Stripped
+pub mod Selections
+pub mod RestrictedModules
+pub mod PartValues
+pub mod GraphModules
+pub mod LastParts
+pub mod FixedMembers
+pub mod OneKernel
+pub mod GraphBlocks
+pub mod GraphGenerators
+pub mod GraphBases
