@@ -8,8 +8,8 @@ use Rattle.std.proofs.lemmas.List.{get_or-map, get_or-reverse, length-map, lengt
 use Rattle.poly_text.specs.declared.names.Names.{Names}
 use Rattle.poly_text.specs.declared.syntax.FactorText.{FactorText}
 use Rattle.poly_text.specs.Syntax.{Factor}
-use Rattle.poly_text.specs.Trees.{factor_of, factors_of}
-use Rattle.poly_text.specs.Values.{place, places, rise, exponents_from}
+use Rattle.poly_text.specs.Trees.{variable_of, factor_of, factors_of}
+use Rattle.poly_text.specs.Values.{is_known, is_within, HasPlace, HavePlaces, is_secondary, index, ends_with_secondary, last_index, place, places, rise, exponents_from}
 
 below_tree : (xs : List FactorText) (i : ℕ) → i < length xs → i < length (factors_of xs)
 below_tree xs i below = subst (λ n. i < n) (sym (length-map xs factor_of)) below
@@ -60,6 +60,29 @@ rise_fails names xs i d least p below is small =
     ap (rise_from least) (places_more names xs i d below ∙ ap (λ x. x ∷ drop (i + 1) (places names (factors_of xs))) (sym is))
     ∙ ap (λ b. b && rise_from (suc p) (drop (i + 1) (places names (factors_of xs)))) (lt-leb least p small)
 
+-- the last factor tells the ending and the index
+pub ending_last : (xs : List FactorText) (k : ℕ) (d : FactorText) → suc k ≡ length xs → ends_with_secondary (factors_of xs) ≡ (is_secondary (variable_of (get_or xs k d).variable) && ((get_or xs k d).exponent == 1))
+ending_last [] k d last = absurd (omega arith)
+ending_last (y ∷ []) zero d last = refl
+ending_last (y ∷ []) (suc k) d last = absurd (omega arith)
+ending_last (y ∷ z ∷ xs) zero d last = absurd (omega arith)
+ending_last (y ∷ z ∷ xs) (suc k) d last = ending_last (z ∷ xs) k d (omega arith)
+
+pub ending_of : (xs : List FactorText) (k : ℕ) (d : FactorText) (b : Bool) → suc k ≡ length xs → b ≡ is_secondary (variable_of (get_or xs k d).variable) → ends_with_secondary (factors_of xs) ≡ (b && ((get_or xs k d).exponent == 1))
+ending_of xs k d b last is = ending_last xs k d last ∙ ap (λ t. t && ((get_or xs k d).exponent == 1)) (sym is)
+
+pub index_last : (xs : List FactorText) (k : ℕ) (d : FactorText) → suc k ≡ length xs → last_index (factors_of xs) ≡ index (variable_of (get_or xs k d).variable)
+index_last [] k d last = absurd (omega arith)
+index_last (y ∷ []) zero d last = refl
+index_last (y ∷ []) (suc k) d last = absurd (omega arith)
+index_last (y ∷ z ∷ xs) zero d last = absurd (omega arith)
+index_last (y ∷ z ∷ xs) (suc k) d last = index_last (z ∷ xs) k d (omega arith)
+
+-- what is known of all factors holds of each
+pub placed_factor : (names : Names) (xs : List FactorText) (i : ℕ) (d : FactorText) → i < length xs → HavePlaces names (factors_of xs) → HasPlace names (variable_of (get_or xs i d).variable)
+placed_factor names xs i d below have =
+    (have.0, passing_factor (λ f. is_known have.0 names f.variable) xs i d below have.1, passing_factor (λ f. is_within have.0 names f.variable) xs i d below have.2)
+
 -- exponents of no factors
 pub exponents_none : (names : Names) (n i : ℕ) → replicate n 0 ≡ exponents_from names n i []
 exponents_none names zero i = refl
@@ -77,14 +100,15 @@ exponents_past names (suc n) i f fs low =
     ap₂ ◌∷◌ (grind (arith, nat_tests)) (exponents_past names n (suc i) f fs (omega arith))
 
 -- one factor more is an exponent written at its place
-pub exponents_more : (names : Names) (n i k : ℕ) (f : Factor) (fs : List Factor) → place names f.variable ≡ i + k → k < n → set (exponents_from names n i fs) k f.exponent ≡ exponents_from names n i (f ∷ fs)
-exponents_more names zero i k f fs at below = absurd (omega arith)
-exponents_more names (suc n) i zero f fs at below =
+pub exponents_more : (names : Names) (n i k : ℕ) (f : Factor) (fs : List Factor) → place names f.variable ≡ i + k → set (exponents_from names n i fs) k f.exponent ≡ exponents_from names n i (f ∷ fs)
+exponents_more names zero i zero f fs at = refl
+exponents_more names zero i (suc k) f fs at = refl
+exponents_more names (suc n) i zero f fs at =
     let here : (place names f.variable == i) ≡ true = grind (arith, nat_tests) in
     ap₂ ◌∷◌ (grind (arith, nat_tests)) (sym (exponents_past names n (suc i) f fs (omega arith)))
-exponents_more names (suc n) i (suc k) f fs at below =
+exponents_more names (suc n) i (suc k) f fs at =
     let other : (place names f.variable == i) ≡ false = grind (arith, nat_tests) in
-    ap₂ ◌∷◌ (grind (arith, nat_tests)) (exponents_more names n (suc i) k f fs (omega arith) (omega arith))
+    ap₂ ◌∷◌ (grind (arith, nat_tests)) (exponents_more names n (suc i) k f fs (omega arith))
 
 -- the next factor towards the front
 pub factor_back : (xs : List FactorText) (k : ℕ) (x : FactorText) → (k < length (reverse xs)) × (x ≡ get_or (reverse xs) k x) → (k < length xs) × (x ≡ get_or xs (length xs - 1 - k) x)
@@ -92,9 +116,18 @@ factor_back xs k x turn =
     let below : k < length xs = omega (arith, turn.0, length-reverse xs) in
     (below, turn.1 ∙ get_or-reverse xs k x below)
 
-pub exponents_step : (names : Names) (n : ℕ) (xs : List FactorText) (i : ℕ) (x : FactorText) (es : List ℕ) (left : ℕ) → left ≡ i + 1 → i < length xs → x ≡ get_or xs i x → place names (factor_of x).variable < n
+pub exponents_step : (names : Names) (n : ℕ) (xs : List FactorText) (i : ℕ) (x : FactorText) (es : List ℕ) (left : ℕ) → left ≡ i + 1 → i < length xs → x ≡ get_or xs i x
     → es ≡ exponents_from names n 0 (factors_of (drop left xs)) → set es (place names (factor_of x).variable) x.exponent ≡ exponents_from names n 0 (factors_of (drop i xs))
-exponents_step names n xs i x es left next below is small was =
+exponents_step names n xs i x es left next below is was =
     ap (λ l. set l (place names (factor_of x).variable) x.exponent) (was ∙ ap (λ k. exponents_from names n 0 (factors_of (drop k xs))) next)
-    ∙ exponents_more names n 0 (place names (factor_of x).variable) (factor_of x) (factors_of (drop (i + 1) xs)) (omega arith) small
+    ∙ exponents_more names n 0 (place names (factor_of x).variable) (factor_of x) (factors_of (drop (i + 1) xs)) (omega arith)
     ∙ ap (λ l. exponents_from names n 0 (factors_of l)) (sym (drop_more xs i x below ∙ ap (λ y. y ∷ drop (i + 1) xs) (sym is)))
+
+-- the turn of the k-th factor from the back
+pub exponents_turn : (names : Names) (n : ℕ) (xs : List FactorText) (k : ℕ) (x : FactorText) (es : List ℕ) (next : ℕ) → next ≡ k + 1 → k < length xs → x ≡ get_or xs (length xs - 1 - k) x
+    → es ≡ exponents_from names n 0 (factors_of (drop (length xs - k) xs)) → set es (place names (factor_of x).variable) x.exponent ≡ exponents_from names n 0 (factors_of (drop (length xs - next) xs))
+exponents_turn names n xs k x es next more below is was =
+    let here : length xs - k ≡ length xs - 1 - k + 1 = omega arith in
+    let within : length xs - 1 - k < length xs = omega arith in
+    let fewer : length xs - 1 - k ≡ length xs - next = omega arith in
+    exponents_step names n xs (length xs - 1 - k) x es (length xs - k) here within is was ∙ ap (λ i. exponents_from names n 0 (factors_of (drop i xs))) fewer

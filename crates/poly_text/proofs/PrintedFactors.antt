@@ -1,5 +1,5 @@
 -- Exponents and the factors with which they are printed: each list gives the other back.
-use Rattle.std.proofs.Common.{◌≡◌, ◌≢◌, ◌∙◌, ℕ, zero, suc, ◌+◌, ◌<◌, ◌≤◌, ◌⊎◌, inl, inr, true, List, [], ◌∷◌, length, get_or, refl, sym, ap, ap₂, subst, arith}
+use Rattle.std.proofs.Common.{◌≡◌, ◌≢◌, ◌∙◌, ℕ, zero, suc, ◌+◌, ◌<◌, ◌≤◌, ◌⊎◌, inl, inr, true, None, List, [], ◌∷◌, length, get_or, refl, sym, ap, ap₂, subst, arith}
 use Rattle.std.specs.Prelude.{All, nat_le, if◌then◌else◌}
 use Rattle.std.proofs.lemmas.Bool.{eq-eqb, ne_eqb, le-leb, leb-true, and_from, and_parts, cases_eq}
 use Rattle.std.proofs.lemmas.List.Elements.{All-nil, All-cons, All-head, All-tail}
@@ -41,8 +41,8 @@ module _ (names : Names) where
 
   -- the factors of the exponents from the place i on
   pub record AreFactorsOf (i : ℕ) (a : List ℕ) (fs : List Factor) : Type 0 where
-    pub known : are_known names fs ≡ true
-    pub within : are_within names fs ≡ true
+    pub known : are_known None names fs ≡ true
+    pub within : are_within None names fs ≡ true
     pub rising : rise_from i (places names fs) ≡ true
     pub small : are_small fs ≡ true
     pub exponents : exponents_from names (length a) i fs ≡ a
@@ -87,7 +87,7 @@ module _ (names : Names) where
           (one_printed i (record { variable = variable_at names i; exponent = e }) a _ (stands i (omega arith) (omega arith)) low (record { variable = one; exponent = (omega arith, omega arith) }) rest)
 
   -- the factors that are printed for the exponents of factors whose values pass
-  pub factors_back : (n i : ℕ) (fs : List Factor) → i + n ≡ place_count names → All IsFactor fs → are_known names fs ≡ true → are_within names fs ≡ true → rise_from i (places names fs) ≡ true
+  pub factors_back : (n i : ℕ) (fs : List Factor) → i + n ≡ place_count names → All IsFactor fs → are_known None names fs ≡ true → are_within None names fs ≡ true → rise_from i (places names fs) ≡ true
       → factors_from (variable_at names) i (exponents_from names n i fs) ≡ fs
   factors_back zero i [] whole short known within rising = refl
   factors_back zero i (f ∷ fs) whole short known within rising =

@@ -1,8 +1,9 @@
 -- What is read is what was printed, and what was printed is read.
-use Rattle.std.proofs.Common.{◌≡◌, ℕ, List, length, map, All, None, IsTrue, Result, Ok, Err, sym, ap, ◌∙◌, refl, subst}
+use Rattle.std.proofs.Common.{◌≡◌, ℕ, List, length, map, All, None, IsTrue, Result, Ok, Err, sym, ap, ◌∙◌, refl, subst, arith}
+use Rattle.std.specs.Prelude.{replicate}
 use Rattle.std.specs.Result.{IsErrAnd}
 use Rattle.alg_core.specs.Names.{is_name}
-use Rattle.alg_core.specs.Spaces.{SpaceOver, Fits}
+use Rattle.alg_core.specs.Spaces.{SpaceOver, IsPlace, Fits}
 use Rattle.alg_core.specs.Vectors.{Entry}
 use Rattle.prime_field.specs.PrimeFields.{IsPrimeField}
 use Rattle.poly_text.specs.declared.fault.TextFault.{TextFault}
@@ -11,12 +12,18 @@ use Rattle.poly_text.specs.declared.names.Names.{Names}
 use Rattle.poly_text.specs.Faults.{IsSyntaxFault, IsRead}
 use Rattle.poly_text.specs.Syntax.{Term, IsText, IsTerm, spelling}
 use Rattle.poly_text.specs.Texts.{place_count, polynomial_text, term_of}
-use Rattle.poly_text.specs.Values.{entry_of, first_fault, IsReadable, AreDistinct, IsFault}
+use Rattle.poly_text.specs.Values.{HasPositions, entry_of, first_fault, IsReadable, AreDistinct, IsFault}
 use Rattle.poly_text.proofs.PrintedLaws.{printed_values, values_printed}
 use Rattle.poly_text.proofs.Scans.{text_unique}
 
+-- position 0 is that of polynomials
+pub polynomial_positions : (S : SpaceOver ℕ) → IsPlace S (0, replicate (length S.weights) 0) → HasPositions None S
+polynomial_positions S constants j low =
+    let first : 0 ≡ j = omega arith in
+    subst (λ i. IsPlace S (i, replicate (length S.weights) 0)) first constants
+
 module _ (S : SpaceOver ℕ) (names : Names) (places : length S.weights ≡ place_count names) (text : List ℕ) where
-  module _ (ts : List Term) (is : IsText ts text) (passed : first_fault S names None 1 ts ≡ None) (es : List (Entry ℕ)) (entries : es ≡ map (entry_of S names) ts) where
+  module _ (ts : List Term) (is : IsText ts text) (passed : first_fault None S names None 1 ts ≡ None) (es : List (Entry ℕ)) (entries : es ≡ map (entry_of None S names) ts) where
     -- what is read can be read
     pub read_readable : All (IsReadable S names) es
     read_readable = subst (All (IsReadable S names)) (sym entries) (values_printed S names ts places is.terms passed).1
@@ -30,7 +37,7 @@ module _ (S : SpaceOver ℕ) (names : Names) (places : length S.weights ≡ plac
     tree : List Term
     tree = map (term_of names S.field.characteristic) es
 
-    abbrev values : (map (entry_of S names) (map (term_of names S.field.characteristic) es) ≡ es) × (first_fault S names None 1 (map (term_of names S.field.characteristic) es) ≡ None) × All IsTerm (map (term_of names S.field.characteristic) es)
+    abbrev values : (map (entry_of None S names) (map (term_of names S.field.characteristic) es) ≡ es) × (first_fault None S names None 1 (map (term_of names S.field.characteristic) es) ≡ None) × All IsTerm (map (term_of names S.field.characteristic) es)
     values = printed_values S names p es prime places distinct names_are fits zeros readable
 
     -- the printed text has the tree of the entries
@@ -48,8 +55,8 @@ module _ (S : SpaceOver ℕ) (names : Names) (places : length S.weights ≡ plac
       same = text_unique text ts _ is tree_text
 
       -- no value fault
-      pub every_valued : (e : TextFault) → IsFault e (first_fault S names None 1 ts) → e ≡ faults.Memory
-      every_valued e h = go e (subst (IsFault e) (ap (first_fault S names None 1) same ∙ values.1) h)
+      pub every_valued : (e : TextFault) → IsFault e (first_fault None S names None 1 ts) → e ≡ faults.Memory
+      every_valued e h = go e (subst (IsFault e) (ap (first_fault None S names None 1) same ∙ values.1) h)
         where
           go : (e : TextFault) → IsFault e None → e ≡ faults.Memory
           go (faults.Syntax n) h = absurd h
@@ -57,8 +64,8 @@ module _ (S : SpaceOver ℕ) (names : Names) (places : length S.weights ≡ plac
           go faults.Memory h = refl
 
       -- and the entries are read
-      pub every_read : (fs : List (Entry ℕ)) → fs ≡ map (entry_of S names) ts → fs ≡ es
-      every_read fs h = h ∙ ap (map (entry_of S names)) same ∙ values.0
+      pub every_read : (fs : List (Entry ℕ)) → fs ≡ map (entry_of None S names) ts → fs ≡ es
+      every_read fs h = h ∙ ap (map (entry_of None S names)) same ∙ values.0
 
 -- an error that is want of memory
 pub read_memory : {A B : Type 0} (view : A → B) (r : Result A TextFault) (e : TextFault) (es : B) → IsErrAnd r (λ x. x ≡ e) → e ≡ faults.Memory → IsRead view r es

@@ -43,7 +43,7 @@ module _ (names : Names) where
   variable_named : (i : ℕ) → i < length names.vars → variable_at names i ≡ Named (get_or names.vars i [])
   variable_named i below = rw (lt-ltb i (length names.vars) below) refl
 
-  variable_primary : (i : ℕ) → length names.vars ≤ i → i < length names.vars + count_of names.primaries → variable_at names i ≡ Marked Primary (i - length names.vars + 1)
+  pub variable_primary : (i : ℕ) → length names.vars ≤ i → i < length names.vars + count_of names.primaries → variable_at names i ≡ Marked Primary (i - length names.vars + 1)
   variable_primary i high below = rw (le-ltb i (length names.vars) high, lt-ltb i (length names.vars + count_of names.primaries) below) refl
 
   variable_irreducible : (i : ℕ) → length names.vars + count_of names.primaries ≤ i → variable_at names i ≡ Marked Irreducible (i - (length names.vars + count_of names.primaries) + 1)
@@ -53,8 +53,8 @@ module _ (names : Names) where
 
   -- the variable is known, its index is within, and it has this place
   pub record StandsAt (v : Variable) (i : ℕ) : Type 0 where
-    pub known : is_known names v ≡ true
-    pub within : is_within names v ≡ true
+    pub known : is_known None names v ≡ true
+    pub within : is_within None names v ≡ true
     pub place : place names v ≡ i
 
   some_count : (count : Option ℕ) → 0 < count_of count → is_some count ≡ true
@@ -87,7 +87,7 @@ module _ (names : Names) where
       ]
 
   -- a variable that is known and within has a place, and is the one at its place
-  pub variable_at_place : (v : Variable) → IsVariable v → is_known names v ≡ true → is_within names v ≡ true → (variable_at names (place names v) ≡ v) × (place names v < place_count names)
+  pub variable_at_place : (v : Variable) → IsVariable v → is_known None names v ≡ true → is_within None names v ≡ true → (variable_at names (place names v) ≡ v) × (place names v < place_count names)
   variable_at_place (Named w) short known within = named (name_place names w) refl known
     where
       named : (o : Option ℕ) → name_place names w ≡ o → is_some o ≡ true → (variable_at names (count_of (name_place names w)) ≡ Named w) × (count_of (name_place names w) < place_count names)

@@ -2,10 +2,10 @@
 --
 --   fault_at error n       the fault of a text whose byte at the place n, or whose end there, was not taken
 --   IsSyntaxFault bytes e  a syntax fault at the first place, or want of memory
---   IsTextFault S names bytes e   the first fault of the text: a syntax fault, or that of the first value of its tree; or
---                          want of memory
+--   IsTextFault m S names bytes e   the first fault of the text, of the kind that m tells: a syntax fault, or that of the first
+--                          value of its tree; or want of memory
 --   IsRead o es            the entries are read, or memory is wanting
-use Rattle.std.specs.Prelude.{◌≡◌, ℕ, List, None, Some, Result, Ok, Err}
+use Rattle.std.specs.Prelude.{◌≡◌, ℕ, List, Option, None, Some, Result, Ok, Err}
 use Rattle.alg_core.specs.Spaces.{SpaceOver}
 use Rattle.poly_text.specs.declared.fault.TextFault.{TextFault}
 use Rattle.poly_text.specs.declared.fault.TextFault.TheVariants as faults
@@ -24,10 +24,11 @@ IsSyntaxFault bytes (faults.Syntax n) = IsFirstFault bytes n
 IsSyntaxFault bytes (faults.Value term kind) = ⊥
 IsSyntaxFault bytes faults.Memory = Unit {0}
 
-abbrev pub IsTextFault : SpaceOver ℕ → Names → List ℕ → TextFault → Type 0
-IsTextFault S names bytes (faults.Syntax n) = IsFirstFault bytes n
-IsTextFault S names bytes (faults.Value term kind) = (ts : List Term) × IsText ts bytes × (first_fault S names None 1 ts ≡ Some (term, kind))
-IsTextFault S names bytes faults.Memory = Unit {0}
+abbrev pub IsTextFault : Option ℕ → SpaceOver ℕ → Names → List ℕ → TextFault → Type 0
+IsTextFault m S names bytes (faults.Syntax n) = IsFirstFault bytes n
+IsTextFault m S names bytes (faults.Value term kind) =
+    (ts : List Term) × IsText ts bytes × (first_fault m S names None 1 ts ≡ Some (term, kind))
+IsTextFault m S names bytes faults.Memory = Unit {0}
 
 abbrev pub IsRead : {A B : Type 0} → (A → B) → Result A TextFault → B → Type 0
 IsRead view (Ok f) es = view f ≡ es

@@ -14,9 +14,12 @@
 --   IsShort n             a number from 1 to 99999: at most 5 digits
 --   IsVariable, IsFactor, IsTerm   the names are names, and the numbers are short
 --   IsText ts bytes       the bytes are the spelling of the tree ts
+--   monomial_term fs      the product of the factors, as a term
+--   HasPolynomialText bytes   the bytes are the text of a polynomial or a combination, by the grammar
+--   IsMonomialText fs bytes, HasMonomialText bytes   the bytes spell the monomial with the factors fs, some monomial
 --   IsFront bytes         the bytes begin some text
 --   IsFirstFault bytes n  the bytes are no text, and the longest front among their beginnings has the length n
-use Rattle.std.specs.Prelude.{◌≡◌, ◌↔◌, ℕ, ◌≤◌, Bool, IsTrue, ◌==◌, List, [], ◌∷◌, ◌++◌, length, take, All, decimal, if◌then◌else◌}
+use Rattle.std.specs.Prelude.{◌≡◌, ◌↔◌, ℕ, ◌≤◌, Bool, false, IsTrue, ◌==◌, List, [], ◌∷◌, ◌++◌, length, take, All, decimal, if◌then◌else◌}
 use Rattle.alg_core.specs.Names.{is_name}
 use Rattle.poly_text.specs.declared.syntax.Mark.{Mark}
 use Rattle.poly_text.specs.declared.syntax.Mark.TheVariants as marks
@@ -82,6 +85,18 @@ pub record IsTerm (t : Term) : Type 0 where
 pub record IsText (ts : List Term) (bytes : List ℕ) : Type 0 where
   pub terms : All IsTerm ts
   pub spelled : spelling ts ≡ bytes
+
+abbrev pub HasPolynomialText : List ℕ → Type 0
+HasPolynomialText bytes = (ts : List Term) × IsText ts bytes
+
+abbrev pub monomial_term : List Factor → Term
+monomial_term fs = record { is_negative = false; coefficient = 1; factors = fs }
+
+abbrev pub IsMonomialText : List Factor → List ℕ → Type 0
+IsMonomialText fs bytes = IsText (monomial_term fs ∷ []) bytes
+
+abbrev pub HasMonomialText : List ℕ → Type 0
+HasMonomialText bytes = (fs : List Factor) × IsMonomialText fs bytes
 
 -- some text begins so
 abbrev pub IsFront : List ℕ → Type 0

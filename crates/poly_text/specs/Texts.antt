@@ -11,6 +11,7 @@
 --   absolute p c          its absolute value; 1 where p is 2
 --   residue_text p c      that integer: its sign, where it is negative, and its absolute value
 --   monomial_text ws a    the printed monomial in the named variables ws: 1, or its powers
+--   monomial_in names a   the printed monomial among the variables of a text
 --   term_in ws r p e      the term of an entry: sign, absolute value, and factors in the order of the variables
 --   term_of names p e     the same among the variables of a text
 --   polynomial_text S names es   the printed text of the polynomial with these entries, which fall
@@ -57,6 +58,9 @@ residue_text p c = (if is_negative p c then 45 ∷ [] else []) ++ decimal (absol
 
 abbrev pub monomial_text : List (List ℕ) → List ℕ → List ℕ
 monomial_text ws a = product_text 1 (factors_from (variable_in ws 0) 0 a)
+
+abbrev pub monomial_in : Names → List ℕ → List ℕ
+monomial_in names a = product_text 1 (factors_from (variable_at names) 0 a)
 
 abbrev pub term_in : List (List ℕ) → ℕ → ℕ → Entry ℕ → Term
 term_in ws r p e = record { is_negative = is_negative p e.1; coefficient = absolute p e.1; factors = factors_from (variable_in ws r) 0 e.0.1 }

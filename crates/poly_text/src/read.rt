@@ -38,7 +38,7 @@ pub fn read_poly<O: TermOrder>(
     ensures every { let S = over (⟦<PrimeField as Field>⟧.field) O.order space.now in
         (es : List (Entry ℕ)) → Fits S es → All (λ e. e.0.0 ≡ 0) es → All (IsReadable S names.now) es
         → polynomial_text S names.now es ≡ text.now → IsRead (entries (λ m. m)) result es }
-    ensures fault { let S = over (⟦<PrimeField as Field>⟧.field) O.order space.now in IfErr result (IsTextFault S names.now text.now) }
+    ensures fault { let S = over (⟦<PrimeField as Field>⟧.field) O.order space.now in IfErr result (IsTextFault None S names.now text.now) }
 {
     names.tell();
     let terms = syntax_tree(alloc, text)?;

@@ -10,6 +10,6 @@ use Rattle.poly_text.proofs.factors.are_known.Goals as goal
 
 pub returns : goal.returns
 returns c = record {
-  is = all_from_yields_List (λ (x : FactorText). is_known c.args.names.now (factor_of x).variable) _ _ c.all.result c.all.ensures.ran (YieldsList-from_slice c.args.factors.now cc) (λ x b q k. search (rules, tests))
-      ∙ sym (list_all-map (λ (f : Factor). is_known c.args.names.now f.variable) factor_of c.args.factors.now);
+  is = all_from_yields_List (λ (x : FactorText). is_known c.args.secondaries c.args.names.now (factor_of x).variable) _ _ c.all.result c.all.ensures.ran (YieldsList-from_slice c.args.factors.now cc) (λ x b q k. search (rules, tests))
+      ∙ sym (list_all-map (λ (f : Factor). is_known c.args.secondaries c.args.names.now f.variable) factor_of c.args.factors.now);
 }

@@ -1,48 +1,20 @@
-use Rattle.std.proofs.Common.{◌≡◌, ◌∙◌, ℕ, ◌+◌, ◌∷◌, ◌++◌, [], sym, ap, subst, length, arith}
-use Rattle.std.specs.Prelude.{All}
-use Rattle.std.proofs.lemmas.List.{map-append}
-use Rattle.std.proofs.lemmas.Result.{err_from_is_err_and}
-use Rattle.alg_core.specs.Spaces.{over, Fits, entry, entries}
+use Rattle.std.proofs.Common.{◌≡◌, ◌∙◌, ℕ, [], sym, ap, subst, refl}
+use Rattle.std.specs.Prelude.{All, None}
+use Rattle.alg_core.specs.Spaces.{over, Fits, IsTerm as IsTermOf, entries}
 use Rattle.alg_core.specs.Vectors.{Entry}
-use Rattle.poly_text.specs.Syntax.{IsTerm}
 use Rattle.poly_text.specs.Trees.{terms_of}
-use Rattle.poly_text.proofs.EntrySteps.{field_of}
-use Rattle.poly_text.proofs.TermSteps.{Reads, given_term, reads_count, reads_more, reads_fault, reads_all, positions_zero}
+use Rattle.poly_text.proofs.EntrySteps.{field_of, fits_from}
+use Rattle.poly_text.proofs.TermSteps.{positions_zero}
 use Rattle.poly_text.proofs.values.polynomial_of.Goals as goal
 
-pub next_term-requires-clause-term : goal.next_term-requires-clause-term
-next_term-requires-clause-term g c = given_term IsTerm c.args.terms.now c.loop-text.text-index c.text-item.result c.loop-text-test.true c.text-item.is c.requires.tree
-
-pub returns-in_err-term-clause-fault : goal.returns-in_err-term-clause-fault
-returns-in_err-term-clause-fault g c =
-    let S = over field_of g.O.TermOrder.order c.args.space.now in
-    let so_far : Reads S c.args.names.now c.args.terms.now c.loop-text.text-index (entries (λ m. m) c.as_slice.result.now) =
-    subst (λ l. Reads S c.args.names.now c.args.terms.now c.loop-text.text-index (entries (λ m. m) l)) (sym c.as_slice.ensures.value) c.loop-text.invariant in
-    let fault = reads_fault S c.args.names.now c.args.terms.now c.loop-text.text-index c.text-item.result (entries (λ m. m) c.as_slice.result.now) c.in_err-term.field-0.0 (length c.as_slice.result.now) c.loop-text-test.true c.text-item.is so_far
-    (reads_count S c.args.names.now c.args.terms.now c.loop-text.text-index c.as_slice.result.now (omega arith) so_far) c.in_err-term.ensures.fault in
-    let p = err_from_is_err_and c.from_residual.result c.from_residual.ensures.1 in
-    rw (p.1, p.2) fault
-
-pub loop-text-preserved : goal.loop-text-preserved
-loop-text-preserved g c =
-    let S = over field_of g.O.TermOrder.order c.args.space.now in
-    let so_far : Reads S c.args.names.now c.args.terms.now c.loop-text.text-index (entries (λ m. m) c.as_slice.result.now) =
-    subst (λ l. Reads S c.args.names.now c.args.terms.now c.loop-text.text-index (entries (λ m. m) l)) (sym c.as_slice.ensures.value) c.loop-text.invariant in
-    let more = reads_more S c.args.names.now c.args.terms.now c.loop-text.text-index c.text-item.result (entries (λ m. m) c.as_slice.result.now) (entry (λ m. m) c.in_ok-term.term) (length c.as_slice.result.now) c.loop-text-test.true c.text-item.is so_far c.in_ok-term.ensures.fault c.in_ok-term.ensures.is c.in_ok-term.ensures.fits in
-    let pushed : entries (λ m. m) c.push.new.self.items ≡ entries (λ m. m) c.as_slice.result.now ++ (entry (λ m. m) c.in_ok-term.term ∷ []) =
-    ap (entries (λ m. m)) (c.in_ok-push.ensures.items ∙ ap (λ l. l ++ (c.in_ok-term.term ∷ [])) (sym c.as_slice.ensures.value)) ∙ map-append (entry (λ m. m)) c.as_slice.result.now (c.in_ok-term.term ∷ []) in
-    subst (Reads S c.args.names.now c.args.terms.now (c.loop-text.text-index + 1)) (sym pushed) more
-
 pub returns-clause-value : goal.returns-clause-value
-returns-clause-value g c =
-    let S = over field_of g.O.TermOrder.order c.args.space.now in
-    let all = reads_all S c.args.names.now c.args.terms.now c.loop-text.text-index (entries (λ m. m) c.loop-text.made.items) (omega arith) c.loop-text.invariant in
-    ap (entries (λ m. m)) c.of.ensures.is ∙ all.1
+returns-clause-value g c = ap (entries (λ m. m)) c.of.ensures.is ∙ c.in_ok-made.ensures.value
 
 pub returns-clause-fits : goal.returns-clause-fits
 returns-clause-fits g c =
     let S = over field_of g.O.TermOrder.order c.args.space.now in
-    subst (λ l. Fits S (entries (λ m. m) l)) (sym c.of.ensures.is) c.loop-text.invariant.fits
+    subst (Fits S) (sym (returns-clause-value g c))
+    (fits_from S c.args.names.now None 1 (terms_of c.args.terms.now) (subst (All (IsTermOf S)) c.in_ok-made.ensures.value c.in_ok-made.ensures.terms) c.in_ok-made.ensures.fault [] refl tt)
 
 pub returns-clause-positions : goal.returns-clause-positions
 returns-clause-positions g c =

@@ -1,7 +1,0 @@
-use Rattle.alg_core.specs.Spaces.{over, entries}
-use Rattle.poly_text.proofs.EntrySteps.{field_of}
-use Rattle.poly_text.proofs.TermSteps.{Reads}
-use Rattle.poly_text.proofs.values.polynomial_of.Given as goal
-
-abbrev pub invariant-loop-text : goal.invariant-loop-text
-invariant-loop-text g l = Reads (over field_of g.O.TermOrder.order l.space) l.names l.terms l.text-index (entries (λ m. m) l.made.items)
