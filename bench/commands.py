@@ -2,7 +2,9 @@
 """Times whole commands on given scripts and prints a table: seconds (least and median of some runs)
 and the peak of memory. Beside them Singular's finvar.lib on the same task, where it is installed and
 has a procedure for the task alone, as a ratio in the same run. Outside the gate; run it on an idle
-machine."""
+machine.
+
+    bench/commands.py [RUNS [COMMAND ..]]"""
 import math
 import os
 import shutil
@@ -44,6 +46,16 @@ CASES = [
     ("primaries of two swaps over GF(2)", 2, [swaps(2)], ["primary"]),
     ("primaries of Sp4 over GF(2)", 2, SP4, ["primary"]),
     ("primaries of SL2(F4) over GF(2)", 2, SL2, ["primary"]),
+    ("ring of the identity over GF(2)", 2, [images(range(2))], ["ring"]),
+    ("ring of 2 over GF(11)", 11, [["2"]], ["ring"]),
+    ("ring of finvar's manual, GF(3)", 3, MANUAL, ["ring"]),
+    ("ring of minus one in four, GF(3)", 3, [images(range(4), range(4))], ["ring"]),
+    ("ring of the swap over GF(32003)", 32003, [swaps(1)], ["ring"]),
+    ("ring of two swaps over GF(3)", 3, [swaps(2)], ["ring"]),
+    ("ring of three permuted over GF(5)", 5, [SHIFT, images([1, 0, 2])], ["ring"]),
+    ("ring of the shift of four over GF(5)", 5, [images([1, 2, 3, 0])], ["ring"]),
+    ("ring of the square's symmetries, GF(7)", 7, [images([1, 0], [1]), images([1, 0])], ["ring"]),
+    ("ring of the shift of five over GF(7)", 7, [images([1, 2, 3, 4, 0])], ["ring"]),
 ]
 
 
@@ -87,6 +99,8 @@ def singular(p, matrices, words):
         task = f"ideal B=invariant_basis({words[1]},{gens}); size(B);"
     elif words[0] == "primary":
         task = f"list L=primary_invariants({gens}); L[1];"
+    elif words[0] == "ring":
+        task = f"matrix P,S,IS=invariant_ring({gens}); size(S);"
     else:
         return None
     return f'LIB "finvar.lib"; {script(p, matrices)} {task} quit;'
@@ -96,9 +110,12 @@ def main():
     if not os.access(PROGRAM, os.X_OK):
         sys.exit("bench: the program is not built; start ./invring once")
     runs = int(sys.argv[1]) if len(sys.argv) > 1 else 5
+    wanted = sys.argv[2:]
     other = shutil.which("Singular")
     print(f"{'task':<40} {'least s':>8} {'median s':>9} {'MB':>6} {'lines':>6} {'Singular/ours':>14}")
     for name, p, matrices, words in CASES:
+        if wanted and words[0] not in wanted:
+            continue
         text = script(p, matrices)
         got = [run([PROGRAM, *words], text) for _ in range(runs)]
         if None in got:

@@ -7,13 +7,14 @@ use Rattle.std.proofs.lemmas.Option.{same_Some}
 use Rattle.std.proofs.lemmas.Slice.Eq.{bytes_eq-Decides}
 use Rattle.alg_core.specs.declared.limits.Limits.{Limits}
 use Rattle.invring_app.specs.declared.commands.Command.{Command}
-use Rattle.invring_app.specs.declared.commands.Command.TheVariants.{Basis, Order, Primary}
+use Rattle.invring_app.specs.declared.commands.Command.TheVariants.{Basis, Order, Primary, Ring}
 use Rattle.invring_app.specs.Commands.{◌>>=◌, command_name, numbers_of, IsNumberOf, command_of, EndsAs}
-use Rattle.invring_app.specs.Endings.{Ending, StopsAt, Answers, AreAlike}
+use Rattle.invring_app.specs.Endings.{Ending, StopsAt, Answers, Modular, AreAlike}
 use Rattle.invring_app.specs.ErrorLines.{bound_pieces}
 use Rattle.invring_app.specs.Inputs.{Input, NoInput, OfScript}
 use Rattle.invring_app.proofs.EndingLaws.{basis-text-one, order-one, order-over}
 use Rattle.invring_app.proofs.PrimaryEnds.{primary-one}
+use Rattle.invring_app.proofs.RingEnds.{ring-one}
 use Rattle.invring_app.proofs.GivenLaws.{Cell, Fits}
 
 -- the number of a command, as a list
@@ -38,6 +39,7 @@ pub numbers-fit : (c : Command) → Fits None (numbers_of c)
 numbers-fit (Basis d) = tt
 numbers-fit Order = tt
 numbers-fit Primary = tt
+numbers-fit Ring = tt
 
 -- the command of a name and a number
 pub record IsCommandOf (w : List ℕ) (o : Option ℕ) (c : Command) : Type 0 where
@@ -71,26 +73,36 @@ unfolding command_of
 command_of-some w o =
     command-if w _ o _ _ (with-number _ o 1000 (λ (d : ℕ). Basis d) (λ d l. (refl, refl, l)))
     (command-if w _ o _ _ (without-number _ o Order refl refl tt)
-    (command-if w _ o _ _ (without-number _ o Primary refl refl tt) (λ c e. absurd cc)))
+    (command-if w _ o _ _ (without-number _ o Primary refl refl tt)
+    (command-if w _ o _ _ (without-number _ o Ring refl refl tt) (λ c e. absurd cc))))
 
 pub command_of-is : (c : Command) (o : Option ℕ) → listed o ≡ numbers_of c → IsNumberOf c → command_of (command_name c) o ≡ Some c
 unfolding command_of
 command_of-is (Basis d) o e range = ap (command_of (codes "basis")) (listed-some o d e) ∙ ap (λ (t : Bool). if t then Some (Basis d) else None) (le-leb d 1000 range)
 command_of-is Order o e range = ap (command_of (codes "order")) (listed-none o e)
 command_of-is Primary o e range = ap (command_of (codes "primary")) (listed-none o e)
+command_of-is Ring o e range = ap (command_of (codes "ring")) (listed-none o e)
 
 -- a command ends in one way
 
 pub ending-one : (c : Command) (l : Limits) (i : Input) (e f : Ending) → EndsAs c l i e → EndsAs c l i f → AreAlike e f
 ending-one (Basis d) l NoInput e f h g = absurd h
 ending-one (Basis d) l (OfScript q) (StopsAt x) (StopsAt y) h g = ap bound_pieces (h.0 ∙ sym g.0)
+ending-one (Basis d) l (OfScript q) (StopsAt x) Modular h g = absurd g
+ending-one (Basis d) l (OfScript q) (Answers text) Modular h g = absurd g
+ending-one (Basis d) l (OfScript q) Modular f h g = absurd h
 ending-one (Basis d) l (OfScript q) (StopsAt x) (Answers text) h g = let over = h.1 in let few = g.0 in omega arith
 ending-one (Basis d) l (OfScript q) (Answers text) (StopsAt y) h g = let over = g.1 in let few = h.0 in omega arith
 ending-one (Basis d) l (OfScript q) (Answers text) (Answers other) h g = basis-text-one q d text other h.1 g.1
 ending-one Order l NoInput e f h g = absurd h
 ending-one Order l (OfScript q) (StopsAt x) (StopsAt y) h g = ap bound_pieces (h.0 ∙ sym g.0)
+ending-one Order l (OfScript q) (StopsAt x) Modular h g = absurd g
+ending-one Order l (OfScript q) (Answers text) Modular h g = absurd g
+ending-one Order l (OfScript q) Modular f h g = absurd h
 ending-one Order l (OfScript q) (StopsAt x) (Answers text) h g = let over = order-over q g.0 l.max_order g.1 h.1 in let few = g.2 in omega arith
 ending-one Order l (OfScript q) (Answers text) (StopsAt y) h g = let over = order-over q h.0 l.max_order h.1 g.1 in let few = h.2 in omega arith
 ending-one Order l (OfScript q) (Answers text) (Answers other) h g = h.3 ∙ ap (λ (n : ℕ). decimal n ++ 10 ∷ []) (order-one q h.0 g.0 h.1 g.1) ∙ sym g.3
 ending-one Primary l NoInput e f h g = absurd h
 ending-one Primary l (OfScript q) e f h g = primary-one q l e f h g
+ending-one Ring l NoInput e f h g = absurd h
+ending-one Ring l (OfScript q) e f h g = ring-one q l e f h g

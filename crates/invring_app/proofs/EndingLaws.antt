@@ -55,7 +55,7 @@ same-fixed k (m ∷ ms) (n ∷ ns) f e all =
     let rest : map shape ms ≡ map shape ns = cc in
     All-cons (λ m. act_by k m f ≡ f) n ns (sym (same-action k m n f first) ∙ All-head (λ m. act_by k m f ≡ f) m ms all) (same-fixed k ms ns f rest (All-tail (λ m. act_by k m f ≡ f) m ms all))
 
-same-form : (k : FieldOn ℕ) (n d : ℕ) (ms ns : List (Matrix ℕ)) (f : Vect k) → map shape ms ≡ map shape ns → IsInvariantForm k n ms d f → IsInvariantForm k n ns d f
+pub same-form : (k : FieldOn ℕ) (n d : ℕ) (ms ns : List (Matrix ℕ)) (f : Vect k) → map shape ms ≡ map shape ns → IsInvariantForm k n ms d f → IsInvariantForm k n ns d f
 same-form k n d ms ns f e h = record { form = h.form; variables = h.variables; invariant = same-fixed k ms ns f e h.invariant }
 
 same-echelon : (k : FieldOn ℕ) (o : OrderOn Key) (U V : Vect k → Type 0) (vs : List (Vect k)) → ((f : Vect k) → U f → V f) → ((f : Vect k) → V f → U f) → IsEchelon k o U vs → IsEchelon k o V vs

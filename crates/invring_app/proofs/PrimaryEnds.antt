@@ -14,11 +14,11 @@ use Rattle.finvar_text.specs.Problems.{Problem}
 use Rattle.groebner_hom.specs.Exponents.{AreLeastExponents}
 use Rattle.primary_search.specs.Searches.{IsEnd}
 use Rattle.invring_app.specs.declared.status.BoundFault.{BoundFault}
-use Rattle.invring_app.specs.declared.status.BoundFault.TheVariants.{TermBound, GroupBound, NoPrimary, BasisBound}
+use Rattle.invring_app.specs.declared.status.BoundFault.TheVariants.{TermBound, GroupBound, NoPrimary, BasisBound, RankBound, TextBound}
 use Rattle.invring_app.specs.Commands.Bases.{AreMatricesOf, AreNamesOf}
 use Rattle.invring_app.specs.Commands.Orders.{IsOrderBound}
 use Rattle.invring_app.specs.Commands.Primaries.{KeepsOrder, IsSearchStop, IsSearchBound, IsPrimaryBound, IsPrimaryText, IsPrimaryAnswer}
-use Rattle.invring_app.specs.Endings.{Ending, StopsAt, Answers, AreAlike, AtProblem}
+use Rattle.invring_app.specs.Endings.{Ending, StopsAt, Answers, Modular, AreAlike, AtProblem}
 use Rattle.invring_app.specs.ErrorLines.{bound_pieces, which_word}
 use Rattle.invring_app.specs.Inputs.{OfScript}
 use Rattle.invring_app.specs.Lines.{polynomial_lines, power_lines}
@@ -53,10 +53,10 @@ record TextAt (q : Problem) (l : Limits) (text : List ℕ) (S : SpaceOver ℕ) :
   least : AreLeastExponents S.field (length S.weights) (vectors_of S (λ m. m) primaries) exponents
   is_text : text ≡ polynomial_lines (codes "primary ") S names (map (entries (λ m. m)) primaries) ++ power_lines q.variables exponents
 
-record StopAt (q : Problem) (l : Limits) (f : BoundFault) (S : SpaceOver ℕ) : Type 0 where
-  matrices : List (Matrix ℕ)
-  are_matrices : AreMatricesOf q matrices
-  stop : IsSearchStop S matrices l f
+pub record StopAt (q : Problem) (l : Limits) (f : BoundFault) (S : SpaceOver ℕ) : Type 0 where
+  pub matrices : List (Matrix ℕ)
+  pub are_matrices : AreMatricesOf q matrices
+  pub stop : IsSearchStop S matrices l f
 
 text-at : (q : Problem) (l : Limits) (text : List ℕ) (T : SpaceOver ℕ) (a : IsPrimaryText q l text) → a.space ≡ T → TextAt q l text T
 text-at q l text T a e = subst (TextAt q l text) e (record {
@@ -72,7 +72,7 @@ text-at q l text T a e = subst (TextAt q l text) e (record {
   is_text = a.is_text;
 })
 
-stop-at : (q : Problem) (l : Limits) (f : BoundFault) (T : SpaceOver ℕ) (a : IsSearchBound l q f) → a.space ≡ T → StopAt q l f T
+pub stop-at : (q : Problem) (l : Limits) (f : BoundFault) (T : SpaceOver ℕ) (a : IsSearchBound l q f) → a.space ≡ T → StopAt q l f T
 stop-at q l f T a e = subst (StopAt q l f) e (record { matrices = a.matrices; are_matrices = a.ground.matrices; stop = a.stop })
 
 module _ (q : Problem) (l : Limits) (S : SpaceOver ℕ) where
@@ -93,11 +93,14 @@ module _ (q : Problem) (l : Limits) (S : SpaceOver ℕ) where
       twice [] = refl
       twice (r ∷ rs) = ap (λ v. vec S.field (entries (λ m. m) r) ∷ v) (twice rs)
 
+  pub found-one : (θ η : List (Vect S.field)) (ms ns : List (Matrix ℕ)) → AreMatricesOf q ms → AreMatricesOf q ns → IsEnd S ms l θ → IsEnd S ns l η → θ ≡ η
+  found-one θ η ms ns are others a b = ending-one S ns l (Found θ) (Found η) (moved ms ns are others (Found θ) a) b
+
   texts-one : (text other : List ℕ) → TextAt q l text S → TextAt q l other S → text ≡ other
   texts-one text other a b =
       let θ = vectors_of S (λ m. m) a.primaries in
       let η = vectors_of S (λ m. m) b.primaries in
-      let found : θ ≡ η = ending-one S b.matrices l (Found θ) (Found η) (moved a.matrices b.matrices a.are_matrices b.are_matrices (Found θ) a.end) b.end in
+      let found : θ ≡ η = found-one θ η a.matrices b.matrices a.are_matrices b.are_matrices a.end b.end in
       let exponents = exponents-one S.field (length S.weights) η a.exponents b.exponents (subst (λ x. AreLeastExponents S.field (length S.weights) x a.exponents) found a.least) b.least in
       a.is_text ∙ ap₂ (λ (x y : List ℕ). x ++ y)
       (ap (polynomial_lines (codes "primary ") S a.names) (lists-one a.primaries b.primaries a.polynomials b.polynomials found) ∙ ap (λ (n : Names). polynomial_lines (codes "primary ") S n (map (entries (λ m. m)) b.primaries)) (names-one q a.names b.names a.are_names b.are_names))
@@ -109,6 +112,8 @@ module _ (q : Problem) (l : Limits) (S : SpaceOver ℕ) where
   IsEndOf (GroupBound counted) e = ⊥
   IsEndOf (NoPrimary found d) e = e ≡ TookUpTo (vectors_of S (λ m. m) found.items) d
   IsEndOf (BasisBound which vector degree) e = e ≡ AboveCap (record { vector = vector; degree = degree; which = which })
+  IsEndOf (RankBound counted) e = ⊥
+  IsEndOf (TextBound bytes) e = ⊥
 
   end-of : (f : BoundFault) (ms : List (Matrix ℕ)) → IsSearchStop S ms l f → (e : SearchEnding S.field) × IsEndOf f e × EndsAs S ms l e
   unfolding IsEndOf
@@ -116,28 +121,33 @@ module _ (q : Problem) (l : Limits) (S : SpaceOver ℕ) where
   end-of (GroupBound counted) ms a = absurd a
   end-of (NoPrimary found d) ms a = (TookUpTo (vectors_of S (λ m. m) found.items) d, refl, a.1)
   end-of (BasisBound which vector degree) ms a = (AboveCap (record { vector = vector; degree = degree; which = which }), refl, a)
+  end-of (RankBound counted) ms a = absurd a
+  end-of (TextBound bytes) ms a = absurd a
 
-  text-no-stop : (text : List ℕ) (f : BoundFault) → TextAt q l text S → StopAt q l f S → ⊥
+  -- a search that ends with invariants ends at no bound
+  pub found-no-stop : (θ : List (Vect S.field)) (ms : List (Matrix ℕ)) → AreMatricesOf q ms → IsEnd S ms l θ → (f : BoundFault) → StopAt q l f S → ⊥
   unfolding IsEndOf
-  text-no-stop text f a b = at f (end-of f b.matrices b.stop)
+  found-no-stop θ ms are end f b = at f (end-of f b.matrices b.stop)
     where
-      θ : List (Vect S.field)
-      θ = vectors_of S (λ m. m) a.primaries
-
       one : (e : SearchEnding S.field) → EndsAs S b.matrices l e → AreAlikeEnds S.field (Found θ) e
-      one e h = ending-one S b.matrices l (Found θ) e (moved a.matrices b.matrices a.are_matrices b.are_matrices (Found θ) a.end) h
+      one e h = ending-one S b.matrices l (Found θ) e (moved ms b.matrices are b.are_matrices (Found θ) end) h
 
       at : (f : BoundFault) → (e : SearchEnding S.field) × IsEndOf f e × EndsAs S b.matrices l e → ⊥
       at (TermBound d count) h = subst (AreAlikeEnds S.field (Found θ)) h.1 (one h.0 h.2)
       at (GroupBound counted) h = h.1
       at (NoPrimary found d) h = subst (AreAlikeEnds S.field (Found θ)) h.1 (one h.0 h.2)
       at (BasisBound which vector degree) h = subst (AreAlikeEnds S.field (Found θ)) h.1 (one h.0 h.2)
+      at (RankBound counted) h = h.1
+      at (TextBound bytes) h = h.1
+
+  text-no-stop : (text : List ℕ) (f : BoundFault) → TextAt q l text S → StopAt q l f S → ⊥
+  text-no-stop text f a b = found-no-stop (vectors_of S (λ m. m) a.primaries) a.matrices a.are_matrices a.end f b
 
   length_vectors : (ps : List (List (Term ℕ (List ℕ)))) → length (vectors_of S (λ m. m) ps) ≡ length ps
   length_vectors [] = refl
   length_vectors (p ∷ ps) = ap suc (length_vectors ps)
 
-  stops-one : (f g : BoundFault) → StopAt q l f S → StopAt q l g S → bound_pieces f ≡ bound_pieces g
+  pub stops-one : (f g : BoundFault) → StopAt q l f S → StopAt q l g S → bound_pieces f ≡ bound_pieces g
   unfolding IsEndOf
   stops-one f g a b =
       let x = end-of f a.matrices a.stop in
@@ -152,6 +162,8 @@ module _ (q : Problem) (l : Limits) (S : SpaceOver ℕ) where
       at (TermBound d m) (GroupBound counted) x y p r h = absurd r
       at (TermBound d m) (NoPrimary found e) x y p r h = absurd (alike x y _ _ p r h)
       at (TermBound d m) (BasisBound w v e) x y p r h = absurd (alike x y _ _ p r h)
+      at (TermBound d m) (RankBound counted) x y p r h = absurd r
+      at (TermBound d m) (TextBound bytes) x y p r h = absurd r
       at (GroupBound counted) g x y p r h = absurd p
       at (NoPrimary found d) (TermBound e n) x y p r h = absurd (alike x y _ _ p r h)
       at (NoPrimary found d) (GroupBound counted) x y p r h = absurd r
@@ -159,12 +171,18 @@ module _ (q : Problem) (l : Limits) (S : SpaceOver ℕ) where
           let s = alike x y _ _ p r h in
           ap₂ (λ (i j : ℕ). codes "bound primary " ∷ decimal i ∷ codes " " ∷ decimal j ∷ []) (sym (length_vectors found.items) ∙ ap length s.0 ∙ length_vectors others.items) s.1
       at (NoPrimary found d) (BasisBound w v e) x y p r h = absurd (alike x y _ _ p r h)
+      at (NoPrimary found d) (RankBound counted) x y p r h = absurd r
+      at (NoPrimary found d) (TextBound bytes) x y p r h = absurd r
       at (BasisBound w v d) (TermBound e n) x y p r h = absurd (alike x y _ _ p r h)
       at (BasisBound w v d) (GroupBound counted) x y p r h = absurd r
       at (BasisBound w v d) (NoPrimary found e) x y p r h = absurd (alike x y _ _ p r h)
       at (BasisBound w v d) (BasisBound u t e) x y p r h =
           let s = alike x y _ _ p r h in
           ap₂ (λ (i : _) (j : ℕ). codes "bound basis " ∷ which_word i ∷ decimal j ∷ []) s.0 s.1
+      at (BasisBound w v d) (RankBound counted) x y p r h = absurd r
+      at (BasisBound w v d) (TextBound bytes) x y p r h = absurd r
+      at (RankBound counted) g x y p r h = absurd p
+      at (TextBound bytes) g x y p r h = absurd p
 
 -- the group is too large, or it is not
 kept-not-over : (q : Problem) (l : Limits) (f : BoundFault) → KeepsOrder l q → IsOrderBound l q f → ⊥
@@ -176,6 +194,9 @@ primary-one q l (StopsAt x) (StopsAt y) (inl a) (inr b) = absurd (kept-not-over 
 primary-one q l (StopsAt x) (StopsAt y) (inr a) (inl b) = absurd (kept-not-over q l y a.0 b)
 primary-one q l (StopsAt x) (StopsAt y) (inr a) (inr b) =
     stops-one q l b.1.space x y (stop-at q l x b.1.space a.1 (space-one q a.1.space b.1.space a.1.ground.space b.1.ground.space)) (stop-at q l y b.1.space b.1 refl)
+primary-one q l (StopsAt x) Modular a b = absurd b
+primary-one q l (Answers text) Modular a b = absurd b
+primary-one q l Modular f a b = absurd a
 primary-one q l (StopsAt x) (Answers text) (inl a) b = absurd (kept-not-over q l x b.0 a)
 primary-one q l (StopsAt x) (Answers text) (inr a) b =
     text-no-stop q l a.1.space text x (text-at q l text a.1.space b.1 (space-one q b.1.space a.1.space b.1.ground.space a.1.ground.space)) (stop-at q l x a.1.space a.1 refl)

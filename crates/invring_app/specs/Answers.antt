@@ -2,15 +2,16 @@
 --
 --   Ends r i e            the request r ends so at the input i
 --   IsAnswer c l bytes e  the bytes are read as an input of the command c, and under the limits l it ends so there
---   IsFault c l bytes f   why the bytes have no answer: they are refused, a bound stops the command there, or memory was refused
+--   IsFault c l bytes f   why the bytes have no answer: they are refused, the command has none there or a bound stops it, or memory
+--                         was refused
 use Rattle.std.specs.Prelude.{ℕ, List}
 use Rattle.alg_core.specs.declared.limits.Limits.{Limits}
 use Rattle.invring_app.specs.declared.commands.Command.{Command}
 use Rattle.invring_app.specs.declared.fault.Fault.{Fault}
-use Rattle.invring_app.specs.declared.fault.Fault.TheVariants.{Syntax, Input, Bound, Memory}
+use Rattle.invring_app.specs.declared.fault.Fault.TheVariants as faults
 use Rattle.invring_app.specs.declared.words.Request.{Request}
 use Rattle.invring_app.specs.Commands.{reads, EndsAs}
-use Rattle.invring_app.specs.Endings.{Ending, StopsAt}
+use Rattle.invring_app.specs.Endings.{Ending, StopsAt, Modular}
 use Rattle.invring_app.specs.Inputs as inputs
 
 abbrev pub Ends : Request → inputs.Input → Ending → Type 0
@@ -20,7 +21,8 @@ abbrev pub IsAnswer : Command → Limits → List ℕ → Ending → Type 0
 IsAnswer c l bytes e = (i : inputs.Input) × inputs.ReadsAs (reads c) bytes i × EndsAs c l i e
 
 abbrev pub IsFault : Command → Limits → List ℕ → Fault → Type 0
-IsFault c l bytes (Syntax p) = inputs.IsRefused (reads c) bytes (inputs.NoText p)
-IsFault c l bytes (Input f) = inputs.IsRefused (reads c) bytes (inputs.Faulty f)
-IsFault c l bytes (Bound f) = IsAnswer c l bytes (StopsAt f)
-IsFault c l bytes Memory = Unit {0}
+IsFault c l bytes (faults.Syntax p) = inputs.IsRefused (reads c) bytes (inputs.NoText p)
+IsFault c l bytes (faults.Input f) = inputs.IsRefused (reads c) bytes (inputs.Faulty f)
+IsFault c l bytes faults.Modular = IsAnswer c l bytes Modular
+IsFault c l bytes (faults.Bound f) = IsAnswer c l bytes (StopsAt f)
+IsFault c l bytes faults.Memory = Unit {0}

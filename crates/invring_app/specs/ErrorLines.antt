@@ -16,9 +16,9 @@ use Rattle.module_groebner.specs.declared.bound.Which.TheVariants.{Ideal, Colon,
 use Rattle.invring_app.specs.declared.error_line.Piece.{Piece}
 use Rattle.invring_app.specs.declared.error_line.Piece.TheVariants.{Text, Number}
 use Rattle.invring_app.specs.declared.status.BoundFault.{BoundFault}
-use Rattle.invring_app.specs.declared.status.BoundFault.TheVariants.{TermBound, GroupBound, NoPrimary, BasisBound}
+use Rattle.invring_app.specs.declared.status.BoundFault.TheVariants.{TermBound, GroupBound, NoPrimary, BasisBound, RankBound, TextBound}
 use Rattle.invring_app.specs.declared.status.Status.{Status}
-use Rattle.invring_app.specs.declared.status.Status.TheVariants.{Done, Usage, Syntax, Input, Bound, ReadFault, WriteFault, Memory}
+use Rattle.invring_app.specs.declared.status.Status.TheVariants.{Done, Usage, Syntax, Input, Modular, Bound, ReadFault, WriteFault, Memory}
 
 abbrev pub piece_text : Piece → List ℕ
 piece_text (Text text) = text.now
@@ -53,12 +53,15 @@ bound_pieces (TermBound degree count) = codes "bound terms " ∷ decimal degree 
 bound_pieces (GroupBound counted) = codes "bound group " ∷ decimal counted ∷ []
 bound_pieces (NoPrimary found degree) = codes "bound primary " ∷ decimal (length found.items) ∷ codes " " ∷ decimal degree ∷ []
 bound_pieces (BasisBound which vector degree) = codes "bound basis " ∷ which_word which ∷ decimal degree ∷ []
+bound_pieces (RankBound counted) = codes "bound rank " ∷ decimal counted ∷ []
+bound_pieces (TextBound bytes) = codes "bound text " ∷ decimal bytes ∷ []
 
 abbrev pub status_line : Status → List ℕ
 status_line Done = []
 status_line Usage = line_of (codes "usage" ∷ [])
 status_line (Syntax place) = line_of (place_pieces place)
 status_line (Input fault) = line_of (input_pieces fault)
+status_line Modular = line_of (codes "input modular" ∷ [])
 status_line (Bound fault) = line_of (bound_pieces fault)
 status_line ReadFault = line_of (codes "read" ∷ [])
 status_line WriteFault = line_of (codes "write" ∷ [])

@@ -4,6 +4,7 @@
 --   fault_of_space e    the bound on the monomials of a degree, or want of memory
 --   fault_of_group e    the bound on the elements of the group, or want of memory
 --   fault_of_search e   the bound that the search for primary invariants met, or want of memory
+--   fault_of_rank e     the bound on the number of standard monomials, or want of memory
 use Rattle.std.specs.Prelude.{ℕ}
 use Rattle.alg_core.specs.declared.place.Place.TheVariants.{Byte}
 use Rattle.finvar_text.specs.declared.fault.ScriptFault.{ScriptFault}
@@ -14,9 +15,11 @@ use Rattle.matrix_group.specs.declared.fault.GroupFault.{GroupFault}
 use Rattle.matrix_group.specs.declared.fault.GroupFault.TheVariants as groups
 use Rattle.primary_search.specs.declared.fault.SearchFault.{SearchFault}
 use Rattle.primary_search.specs.declared.fault.SearchFault.TheVariants as searches
+use Rattle.primary_module.specs.declared.fault.RankFault.{RankFault}
+use Rattle.primary_module.specs.declared.fault.RankFault.TheVariants as ranks
 use Rattle.invring_app.specs.declared.fault.Fault.{Fault}
 use Rattle.invring_app.specs.declared.fault.Fault.TheVariants.{Syntax, Input, Bound, Memory}
-use Rattle.invring_app.specs.declared.status.BoundFault.TheVariants.{TermBound, GroupBound, NoPrimary, BasisBound}
+use Rattle.invring_app.specs.declared.status.BoundFault.TheVariants.{TermBound, GroupBound, NoPrimary, BasisBound, RankBound}
 
 abbrev pub fault_of_script : ScriptFault → Fault
 fault_of_script (scripts.Syntax n) = Syntax (Byte n)
@@ -36,3 +39,7 @@ fault_of_search (searches.NoPrimary found degree) = Bound (NoPrimary found degre
 fault_of_search (searches.TermBound degree count) = Bound (TermBound degree count)
 fault_of_search (searches.Basis b) = Bound (BasisBound b.which b.vector b.degree)
 fault_of_search searches.Memory = Memory
+
+abbrev pub fault_of_rank : RankFault → Fault
+fault_of_rank (ranks.RankBound counted) = Bound (RankBound counted)
+fault_of_rank ranks.Memory = Memory

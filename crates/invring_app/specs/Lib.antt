@@ -9,3 +9,11 @@ pub mod WordReading
 pub mod Faults
 pub mod Answers
 pub mod Outcomes
+pub mod WiderTerms
+pub mod SmallMonomials
+pub mod FoundPrimaries
+pub mod AveragedOver
+pub mod WrittenParts
+pub mod AveragedGroups
+pub mod RingFaults
+pub mod Headline

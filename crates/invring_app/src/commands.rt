@@ -10,6 +10,7 @@ mod basis;
 mod lines;
 mod order;
 mod primary;
+mod ring;
 
 use crate::fault::Fault;
 use crate::reading::Kind;
@@ -17,6 +18,7 @@ use crate::words::Request;
 use basis::basis_text;
 use order::order_text;
 use primary::primary_text;
+pub use ring::ring_text;
 use std::alloc::Global;
 
 /// What is to be done.
@@ -28,6 +30,8 @@ pub enum Command {
     Order,
     /// The first primary invariants, and the least powers of the variables in their ideal.
     Primary,
+    /// The certificate of the generators.
+    Ring,
 }
 
 /// The command of this name, with the number that was given exactly where it needs one, in its range.
@@ -42,6 +46,7 @@ pub(crate) fn command_in(name: &str, number: Option<u32>) -> Option<Command>
         }
         "order" => number.is_none().then_some(Command::Order),
         "primary" => number.is_none().then_some(Command::Primary),
+        "ring" => number.is_none().then_some(Command::Ring),
         _ => None,
     }
 }
@@ -51,7 +56,7 @@ pub(crate) fn input_of(command: Command) -> Kind
     ensures is { result ≡ reads command }
 {
     match command {
-        Command::Basis { .. } | Command::Order | Command::Primary => Kind::Script,
+        Command::Basis { .. } | Command::Order | Command::Primary | Command::Ring => Kind::Script,
     }
 }
 
@@ -75,6 +80,10 @@ pub(crate) fn answer(alloc: Global, request: Request, bytes: &[u8]) -> Result<Ve
         }
         Command::Primary => {
             let text = primary_text(alloc, bytes, &limits)?;
+            Ok(text)
+        }
+        Command::Ring => {
+            let text = ring_text(alloc, bytes, &limits)?;
             Ok(text)
         }
     }

@@ -127,6 +127,22 @@ fn bound_line<'a>(fault: &BoundFault) -> [Piece<'a>; 4]
             Piece::Number(u128::from(*degree)),
             none,
         ],
+        BoundFault::RankBound { counted } => {
+            [
+                Piece::Text(b"bound rank "),
+                Piece::Number(u128::from(*counted)),
+                none,
+                none,
+            ]
+        }
+        BoundFault::TextBound { bytes } => {
+            [
+                Piece::Text(b"bound text "),
+                Piece::Number(u128::from(*bytes)),
+                none,
+                none,
+            ]
+        }
     }
 }
 
@@ -140,6 +156,7 @@ fn line_pieces<'a>(status: &'a Status) -> [Piece<'a>; 4]
         Status::Usage => [Piece::Text(b"usage"), none, none, none],
         Status::Syntax(place) => place_line(*place),
         Status::Input(fault) => input_line(fault),
+        Status::Modular => [Piece::Text(b"input modular"), none, none, none],
         Status::Bound(fault) => bound_line(fault),
         Status::ReadFault => [Piece::Text(b"read"), none, none, none],
         Status::WriteFault => [Piece::Text(b"write"), none, none, none],

@@ -4,13 +4,18 @@ use finvar_text::ScriptFault;
 use invariant_space::SpaceFault;
 use matrix_group::GroupFault;
 use module_groebner::BasisBound;
+use primary_module::RankFault;
 use primary_search::SearchFault;
 
 /// Why bytes have no answer.
 #[derive(Drop)]
-pub(crate) enum Fault {
+pub enum Fault {
+    /// They are no script.
     Syntax(Place),
+    /// They are too many, or a script with a faulty value.
     Input(InputFault),
+    /// The characteristic divides the order of the group, for which there is no certificate yet.
+    Modular,
     Bound(BoundFault),
     Memory,
 }
@@ -99,6 +104,20 @@ impl From<SearchFault<u16>> for Fault {
                 degree,
             }),
             SearchFault::Memory => Fault::Memory,
+        }
+    }
+}
+
+impl From<RankFault> for Fault {
+    ghost use Rattle.invring_app.specs.Faults.{fault_of_rank};
+    ghost use Rattle.std.specs.Prelude.{◌≡◌};
+
+    ghost from_gives = { λ e f. f ≡ fault_of_rank e };
+
+    fn from(fault: RankFault) -> Fault {
+        match fault {
+            RankFault::RankBound { counted } => Fault::Bound(BoundFault::RankBound { counted }),
+            RankFault::Memory => Fault::Memory,
         }
     }
 }

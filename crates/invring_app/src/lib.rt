@@ -14,8 +14,9 @@ mod status;
 mod top_call;
 mod words;
 
-pub use commands::Command;
+pub use commands::{Command, ring_text};
 pub use error_line::write_error;
+pub use fault::Fault as RingFault;
 pub use laws::{bytes_are_read_once, requests_end_once, words_ask_once};
 pub use status::{BoundFault, Status};
 pub use top_call::run;

@@ -28,6 +28,14 @@ pub enum BoundFault {
         vector: Vector<u16, Mono>,
         degree: u64,
     },
+    /// There are more standard monomials than the limit, at least `counted`.
+    RankBound {
+        counted: u64,
+    },
+    /// The certificate is longer than the limit: so many bytes, or 18446744073709551615 where it is longer.
+    TextBound {
+        bytes: u64,
+    },
 }
 
 /// How a run ended.
@@ -40,6 +48,8 @@ pub enum Status {
     Syntax(Place),
     /// They are too many, or a script with a faulty value.
     Input(InputFault),
+    /// The characteristic divides the order of the group, for which `ring` has no answer yet.
+    Modular,
     Bound(BoundFault),
     /// The source failed.
     ReadFault,
@@ -62,6 +72,7 @@ impl Status {
             Status::Usage => 2,
             Status::Syntax(_) => 3,
             Status::Input(_) => 4,
+            Status::Modular => 4,
             Status::Bound(_) => 5,
             Status::ReadFault => 6,
             Status::WriteFault => 7,
@@ -104,6 +115,7 @@ impl From<Fault> for Status {
         match fault {
             Fault::Syntax(place) => Status::Syntax(place),
             Fault::Input(fault) => Status::Input(fault),
+            Fault::Modular => Status::Modular,
             Fault::Bound(fault) => Status::Bound(fault),
             Fault::Memory => Status::Memory,
         }

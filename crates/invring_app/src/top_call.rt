@@ -4,6 +4,7 @@ ghost use Rattle.inv_outside.specs.Outside.{Rose, Took};
 ghost use Rattle.invring_app.specs.Commands.{IsNumberOf, reads};
 ghost use Rattle.invring_app.specs.declared.commands.Command.{Command as Asked};
 ghost use Rattle.invring_app.specs.declared.words.Request.{Request};
+ghost use Rattle.invring_app.specs.Headline.{WritesCertificate};
 ghost use Rattle.invring_app.specs.Inputs.{IsReading};
 ghost use Rattle.invring_app.specs.Outcomes.{status_after, Reading, Writing, Completes, Writes, IsCommandOf, error_line};
 ghost use Rattle.invring_app.specs.Words.{IsRequest};
@@ -41,6 +42,10 @@ pub fn run<S: Source, O: Sink, E: Sink>(
     ensures complete { (r : Request) → IsRequest (map string_bytes words.now) r
         → Completes r result (S.left src.old) (S.faults src.old) (S.faults src.new) (O.faults out.old) (O.faults out.new) }
     ensures silent { ¬ Writes result → out.new ≡ out.old }
+
+    // What `ring` wrote: the certificate of the script that the source gave.
+    ensures certified { (r : Request) → IsRequest (map string_bytes words.now) r → r.command ≡ Asked.Ring → result ≡ Status.Done
+        → WritesCertificate r.limits.tries (S.left src.old) (S.left src.new) (O.taken out.old) (O.taken out.new) }
 
     // The error line: its front, all of it where `err` had no fault, and nothing where the run is done.
     ensures line { (c : Option Asked) → IsCommandOf (map string_bytes words.now) c

@@ -46,6 +46,8 @@ module _ (S : SpaceOver ℕ) (ms : List (Matrix ℕ)) (l : Limits) where
   IsSearchStop (stops.GroupBound counted) = ⊥
   IsSearchStop (stops.NoPrimary found d) = ArePolys S (λ m. m) found.items × IsNoPrimary S ms l (vectors_of S (λ m. m) found.items) d
   IsSearchStop (stops.BasisBound which vector degree) = IsBasisStop (record { vector = vector; degree = degree; which = which })
+  IsSearchStop (stops.RankBound counted) = ⊥
+  IsSearchStop (stops.TextBound bytes) = ⊥
 
 pub record IsSearchBound (l : Limits) (q : Problem) (f : bounds.BoundFault) : Type 0 where
   pub space : SpaceOver ℕ

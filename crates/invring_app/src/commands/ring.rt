@@ -1,0 +1,59 @@
+//! The certificate of the generators of a script, as its text.
+
+ghost use Rattle.std.specs.Prelude.{◌≡◌, ◌≤◌, IfErr, IfOk, length};
+ghost use Rattle.alg_core.specs.LimitRanges.{AreLimits};
+ghost use Rattle.finvar_text.specs.Problems.{Problem, IsProblemText};
+ghost use Rattle.certificate_io.specs.Printable.{IsPrintable};
+ghost use Rattle.certificate_io.specs.Texts.{certificate_text};
+ghost use Rattle.invring_app.specs.Commands.Rings.{IsCertified};
+ghost use Rattle.invring_app.specs.RingFaults.{IsTooLong};
+ghost use Rattle.invring_app.specs.Answers.{IsAnswer, IsFault};
+ghost use Rattle.invring_app.specs.Endings.{Answers};
+
+mod averages;
+mod marks;
+mod over;
+mod present;
+mod secondaries;
+mod whole;
+mod written;
+
+use crate::commands::Command;
+use crate::fault::Fault;
+use crate::status::BoundFault;
+use alg_core::Limits;
+use certificate_io::{Certificate, print_certificate, printed_length};
+use finvar_text::read_script;
+use std::alloc::Global;
+use whole::certificate;
+
+/// The text of the certificate. TextBound says that it is longer than the limit; it is not made then.
+fn text_within(alloc: Global, cert: &Certificate<u16>, max_text: u64) -> Result<Vec<u8>, Fault>
+    requires printable { IsPrintable cert.now }
+    ensures text { IfOk result (λ t. t.items ≡ certificate_text cert.now) }
+    ensures short { IfOk result (λ t. length (certificate_text cert.now) ≤ max_text) }
+    ensures fault { IfErr result (IsTooLong (length (certificate_text cert.now)) max_text) }
+{
+    let bytes = printed_length(cert);
+    if bytes > max_text {
+        return Err(Fault::Bound(BoundFault::TextBound { bytes }));
+    }
+    let text = print_certificate(alloc, cert)?;
+    Ok(text)
+}
+
+/// The text of the certificate of a script. The first fault is answered in the order length, syntax,
+/// values, and then of the group, the search, the number of standard monomials, the degrees of their
+/// averages, and the length of the text. `Modular` comes exactly where the group is within its limit and
+/// the characteristic divides its order. `Memory` may come anywhere.
+pub fn ring_text(alloc: Global, script: &[u8], limits: &Limits) -> Result<Vec<u8>, Fault>
+    requires limits { AreLimits limits.now }
+    ensures certified { IfOk result (λ text. (q : Problem) × IsProblemText script.now q × IsCertified q limits.now.tries text.items) }
+    ensures text { IfOk result (λ text. IsAnswer Command.Ring limits.now script.now (Answers text.items)) }
+    ensures fault { IfErr result (IsFault Command.Ring limits.now script.now) }
+{
+    let script = read_script(alloc, script)?;
+    let cert = certificate(alloc, script, limits)?;
+    let text = text_within(alloc, &cert, limits.max_text)?;
+    Ok(text)
+}
