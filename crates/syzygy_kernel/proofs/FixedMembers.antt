@@ -176,7 +176,7 @@ module _ {E : Type 0} (k : FieldOn E) (θ : List (Vect k)) (gens : List (Matrix 
     reduced : IsReducedBasis S (element S (length θ) U) ws
     reduced = reduced_restricted S (length θ) U (graph_restricted k n ds θ primaries B standard.wide gens fixed square) ws kernel.reduced
 
-    homogeneous : (w : Vect k) → In w ws → (d : ℕ) × IsHomogeneous S d w
+    pub homogeneous : (w : Vect k) → In w kernel.basis → (d : ℕ) × IsHomogeneous (graph_space k ds (length gens) B) d w
     homogeneous w i =
         let l = kernel.reduced.reduced.lead w i in (
           degree S l.0,

@@ -25,6 +25,7 @@ use Rattle.finite_certificate.specs.StandardMonomials.{AreStandardMonomials, IsC
 use Rattle.primary_module.specs.Positions.{at_positions, from_positions}
 use Rattle.primary_module.proofs.Places.{standard_different, standard_parts}
 use Rattle.primary_module.proofs.Translations.{from_linear, from_single, from_mixed, at_from}
+use Rattle.syzygy_kernel.specs.GraphVectors.{raised}
 use Rattle.syzygy_kernel.specs.Graphs.{part_values, part_value, last_value, InGraph}
 use Rattle.syzygy_kernel.proofs.LastParts.{polynomial_value}
 use Rattle.syzygy_kernel.proofs.PartValues.{part_early, part_late, part_own}
@@ -45,36 +46,31 @@ block_of b (suc c) q h = go (block_of b c q) (dec_le (suc q) (c * b))
 
 module _ {E : Type 0} (k : FieldOn E) (low : ℕ) where
   -- positions moved down, and up again
-  unfoldable lower : Vect k → Vect k
+  unfoldable pub lower : Vect k → Vect k
   lower = extend (scalars k) key_same (vectors k) (λ t. single_vector k (t.0 - low, t.1))
 
-  lower_linear : Linear (vectors k) (vectors k) lower
+  pub lower_linear : Linear (vectors k) (vectors k) lower
   unfolding lower
   lower_linear = extend_linear (scalars k) key_same (vectors k) _
 
-  lower_single : (t : Key) → lower (single_vector k t) ≡ single_vector k (t.0 - low, t.1)
+  pub lower_single : (t : Key) → lower (single_vector k t) ≡ single_vector k (t.0 - low, t.1)
   unfolding lower single_vector
   lower_single t = extend_single (scalars k) key_same (vectors k) _ t
 
-  raise : Vect k → Vect k
-  raise v = product k v (single_vector k (low, monomials.one))
-
-  raise_linear : Linear (vectors k) (vectors k) raise
-  unfolding raise
+  pub raise_linear : Linear (vectors k) (vectors k) (raised k low)
   raise_linear = product_linear_left k _
 
   raise_key : (s : Key) → keys.◌·◌ s (low, monomials.one) ≡ (s.0 + low, s.1)
   unfolding keys
   raise_key s = ap (λ (m : Mon). (s.0 + low, m)) (monomials.mul_one s.1)
 
-  raise_single : (s : Key) → raise (single_vector k s) ≡ single_vector k (s.0 + low, s.1)
-  unfolding raise
+  pub raise_single : (s : Key) → raised k low (single_vector k s) ≡ single_vector k (s.0 + low, s.1)
   raise_single s = product_single k s (low, monomials.one) ∙ ap (single_vector k) (raise_key s)
 
-  raise_lower : (x : Vect k) → Supp k (λ t. low ≤ t.0) x → raise (lower x) ≡ x
-  raise_lower = linear_unique_supp k (vectors k) (λ x. raise (lower x)) (λ x. x)
-      (modules.linear_after (vectors k) (vectors k) (vectors k) lower raise lower_linear raise_linear) (modules.linear_same (vectors k)) (λ t. low ≤ t.0)
-      (λ t q. ap raise (lower_single t) ∙ raise_single (t.0 - low, t.1) ∙ ap (λ (j : ℕ). single_vector k (j, t.1)) (omega arith))
+  raise_lower : (x : Vect k) → Supp k (λ t. low ≤ t.0) x → raised k low (lower x) ≡ x
+  raise_lower = linear_unique_supp k (vectors k) (λ x. raised k low (lower x)) (λ x. x)
+      (modules.linear_after (vectors k) (vectors k) (vectors k) lower (raised k low) lower_linear raise_linear) (modules.linear_same (vectors k)) (λ t. low ≤ t.0)
+      (λ t q. ap (raised k low) (lower_single t) ∙ raise_single (t.0 - low, t.1) ∙ ap (λ (j : ℕ). single_vector k (j, t.1)) (omega arith))
 
   lower_keys : (r b : ℕ) (x : Vect k) → Supp k (λ t. (length t.1.0 ≤ r) × (low ≤ t.0) × (t.0 < low + b)) x → IsCombination k r b (lower x)
   lower_keys r b = linear_supp k lower lower_linear (λ t. (length t.1.0 ≤ r) × (low ≤ t.0) × (t.0 < low + b)) (λ t. (length t.1.0 ≤ r) × (t.0 < b))
@@ -85,10 +81,10 @@ module _ {E : Type 0} (k : FieldOn E) (n : ℕ) (θ : List (Vect k)) (B : List (
   abbrev InBlock : Key → Type 0
   InBlock t = (i * length B ≤ t.0) × (t.0 < suc i * length B)
 
-  block_test : (t : Key) → Dec ((i * length B ≤ t.0) × (t.0 < suc i * length B))
+  pub block_test : (t : Key) → Dec ((i * length B ≤ t.0) × (t.0 < suc i * length B))
   block_test t = dec_both (dec_le (i * length B) t.0) (dec_le (suc t.0) (suc i * length B))
 
-  block : Vect k → Vect k
+  unfoldable pub block : Vect k → Vect k
   block w = select k block_test w
 
   polynomial : Vect k → Vect k
@@ -109,7 +105,7 @@ module _ {E : Type 0} (k : FieldOn E) (n : ℕ) (θ : List (Vect k)) (B : List (
       ∙ polynomial_value k n [] B θ standard.wide (t.0 - i * length B, t.1) (let l = q.0 in let h = q.1 in let s = suc-mul i (length B) in omega arith)
       ∙ sym (combination_value_single k θ (part_values k B c i) t ∙ ap (product k (monomial_value (vector_ring k) θ t.1.0)) (part_own k B c i t.0 within q.0 q.1))
 
-  block_value : (x : Vect k) → Supp k (λ t. (i * length B ≤ t.0) × (t.0 < suc i * length B)) x → mark_value k n θ (from_positions k n B (lower k (i * length B) x)) ≡ combination_value k θ (part_values k B c i) x
+  pub block_value : (x : Vect k) → Supp k (λ t. (i * length B ≤ t.0) × (t.0 < suc i * length B)) x → mark_value k n θ (from_positions k n B (lower k (i * length B) x)) ≡ combination_value k θ (part_values k B c i) x
   block_value = linear_unique_supp k (vectors k) (λ x. mark_value k n θ (from_positions k n B (lower k (i * length B) x))) (combination_value k θ (part_values k B c i))
       (modules.linear_after (vectors k) (vectors k) (vectors k) (λ x. from_positions k n B (lower k (i * length B) x)) (mark_value k n θ)
       (modules.linear_after (vectors k) (vectors k) (vectors k) (lower k (i * length B)) (from_positions k n B) (lower_linear k (i * length B)) (from_linear k n B)) (substitute_linear k _))
@@ -127,7 +123,7 @@ module _ {E : Type 0} (k : FieldOn E) (n : ℕ) (θ : List (Vect k)) (B : List (
           later (no h) = omega arith
       go (no p) = part_early k B c i t.0 (omega arith)
 
-  value_block : (w : Vect k) → combination_value k θ (part_values k B c i) (block w) ≡ combination_value k θ (part_values k B c i) w
+  pub value_block : (w : Vect k) → combination_value k θ (part_values k B c i) (block w) ≡ combination_value k θ (part_values k B c i) w
   unfolding block
   value_block w = linear_unique_supp k (vectors k) (λ w. combination_value k θ (part_values k B c i) (block w)) (combination_value k θ (part_values k B c i))
       (modules.linear_after (vectors k) (vectors k) (vectors k) block (combination_value k θ (part_values k B c i)) (select_linear k block_test) (combination_value_linear k θ _)) (combination_value_linear k θ _)
@@ -148,9 +144,9 @@ module _ {E : Type 0} (k : FieldOn E) (n : ℕ) (θ : List (Vect k)) (B : List (
       in_block w = supp_select k block_test w
 
   -- and tell the block
-  block_back : (w : Vect k) → Supp k (λ t. length t.1.0 ≤ length θ) w → raise k (i * length B) (at_positions k n B (polynomial w)) ≡ block w
+  block_back : (w : Vect k) → Supp k (λ t. length t.1.0 ≤ length θ) w → raised k (i * length B) (at_positions k n B (polynomial w)) ≡ block w
   unfolding polynomial block
-  block_back w h = ap (raise k (i * length B)) (at_from k n B standard.wide (lower k (i * length B) (block w)) (standard_different n k θ B standard) (λ t e. (lower_block w h t e).1))
+  block_back w h = ap (raised k (i * length B)) (at_from k n B standard.wide (lower k (i * length B) (block w)) (standard_different n k θ B standard) (λ t e. (lower_block w h t e).1))
       ∙ raise_lower k (i * length B) (block w) (λ t e. (supp_select k block_test w t e).0)
 
   pub same_block : CoordinatesAreUnique k n θ → (v w : Vect k) → Supp k (λ t. length t.1.0 ≤ length θ) v → Supp k (λ t. length t.1.0 ≤ length θ) w
@@ -160,7 +156,7 @@ module _ {E : Type 0} (k : FieldOn E) (n : ℕ) (θ : List (Vect k)) (B : List (
   same_block unique v w hv hw e t low high =
       let same = unique (combination_value k θ (part_values k B c i) w) (polynomial v) (polynomial w)
       (subst (λ f. IsCoordinates k n θ f (polynomial v)) e (block_coordinates v hv)) (block_coordinates w hw) in
-      let blocks : block v ≡ block w = sym (block_back v hv) ∙ ap (λ u. raise k (i * length B) (at_positions k n B u)) same ∙ block_back w hw in
+      let blocks : block v ≡ block w = sym (block_back v hv) ∙ ap (λ u. raised k (i * length B) (at_positions k n B u)) same ∙ block_back w hw in
       sym (select_inside k block_test v t (low, high)) ∙ ap (λ x. coef_at k x t) blocks ∙ select_inside k block_test w t (low, high)
 
 module _ {E : Type 0} (k : FieldOn E) (n : ℕ) (θ : List (Vect k)) (gens : List (Matrix E)) (B : List (List ℕ)) (standard : AreStandardMonomials k n θ B) (unique : CoordinatesAreUnique k n θ) where

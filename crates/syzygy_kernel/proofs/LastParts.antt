@@ -40,11 +40,11 @@ module _ {E : Type 0} (k : FieldOn E) (n : ℕ) (gens : List (Matrix E)) (B : Li
   unfolding last_part single_vector
   last_single t = extend_single (scalars k) key_same (vectors k) _ t
 
-  last_early : (t : Key) → t.0 < length gens * length B → last_part k n gens B (single_vector k t) ≡ zero_vector k
+  pub last_early : (t : Key) → t.0 < length gens * length B → last_part k n gens B (single_vector k t) ≡ zero_vector k
   last_early t h = last_single t
       ∙ ap (λ (b : Bool). if b then zero_vector k else single_vector k (key_from_position k n B (t.0 - length gens * length B, t.1))) (is_below t.0 (length gens * length B) h)
 
-  last_own : (t : Key) → length gens * length B ≤ t.0 → last_part k n gens B (single_vector k t) ≡ single_vector k (key_from_position k n B (t.0 - length gens * length B, t.1))
+  pub last_own : (t : Key) → length gens * length B ≤ t.0 → last_part k n gens B (single_vector k t) ≡ single_vector k (key_from_position k n B (t.0 - length gens * length B, t.1))
   last_own t h = last_single t
       ∙ ap (λ (b : Bool). if b then zero_vector k else single_vector k (key_from_position k n B (t.0 - length gens * length B, t.1))) (not_below t.0 (length gens * length B) h)
 

@@ -1,2 +1,4 @@
 pub mod Graphs
 pub mod Kernels
+pub mod GraphVectors
+pub mod Fronts
