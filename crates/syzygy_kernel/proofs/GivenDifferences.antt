@@ -17,15 +17,12 @@ use Rattle.poly_module.proofs.EntryCoefficients.{term_at_index}
 use Rattle.poly_module.proofs.ExponentBounds.{fits_keys}
 use Rattle.lin_algebra.specs.declared.matrix.Matrix.{Matrix}
 use Rattle.module_groebner.proofs.Families.{length_map}
+use Rattle.finite_certificate.proofs.LowImages.{marked_length}
 use Rattle.primary_module.specs.Positions.{IsPart, HasParts, part_at}
 use Rattle.primary_module.specs.PrimaryModules.{Primaries, StandsOver, IsDifference, IsStandardDifference}
 use Rattle.primary_module.proofs.Places.{standard_parts}
 use Rattle.primary_module.proofs.ValueSteps.{marks_count}
 use Rattle.syzygy_kernel.specs.GraphVectors.{HasPlaces, AreAllDifferences}
-
-length_ones : (n : ℕ) (ds : List ℕ) → length (replicate n 1 ++ ds) ≡ n + length ds
-length_ones zero ds = omega arith
-length_ones (suc n) ds = let r = length_ones n ds in omega arith
 
 pub part_read : (B : List (List ℕ)) (j : ℕ) → j < length B → part_at B j ≡ mono (get_or B j [])
 unfolding part_at
@@ -62,7 +59,7 @@ module _ {E : Type 0} (S : SpaceOver E) (n : ℕ) (ds : List ℕ) (P : Primaries
   given_places : (m : Matrix E) (a : List ℕ) (p : List (Term E (List ℕ))) → IsStandardDifference S n (vectors_of S (λ m. m) P.theta) m a p → HasPlaces S.field n (length ds) P.monomials p
   unfolding key
   given_places m a p h =
-      let wide : length S.weights ≡ n + length ds = ap length stands.is.space.weights ∙ length_ones n ds in
+      let wide : length S.weights ≡ n + length ds = marked_length S n ds stands.is.space in
       record {
         values = λ i d w. (term_at_index S (entries (λ m. m) p) i d w h.low.poly.fits).has;
         wide = λ i d w. (term_at_index S (entries (λ m. m) p) i d w h.low.poly.fits).place.wide ∙ wide;

@@ -10,6 +10,7 @@ use Rattle.alg_core.specs.Vectors.{Vect, plus, zero_vector}
 use Rattle.alg_core.specs.declared.term.Term.{Term}
 use Rattle.alg_core.proofs.VectorLaws.{plus_assoc, plus_comm, plus_zero, zero_plus}
 use Rattle.poly_module.specs.Polynomials.{single_vector}
+use Rattle.poly_module.proofs.ConstantSteps.{length_zeros}
 use Rattle.poly_module.specs.SpaceVectors.{IsVectorOf, vector_of}
 use Rattle.primary_module.specs.Positions.{at_positions}
 use Rattle.module_groebner.proofs.Families.{length_map}
@@ -77,10 +78,6 @@ pub next_start : (b i start : ℕ) → start ≡ i * b → start + b ≡ (i + 1)
 next_start b i start e = let t = suc-mul i b in let s : suc i ≡ i + 1 = omega arith in let r = ap (λ (j : ℕ). j * b) s in omega (arith, t, r, e)
 
 module _ {E : Type 0} (T : SpaceOver E) (first : ℕ) (ws : List ℕ) (order : T.order ≡ elimination_order first ws) (weights : length ws ≡ length T.weights) where
-  length_zeros : (r : ℕ) → length {A = ℕ} (replicate r 0) ≡ r
-  length_zeros zero = refl
-  length_zeros (suc r) = ap suc (length_zeros r)
-
   pub unit_place : (q : ℕ) → q < length T.shifts → IsPlace T (q, replicate (length T.weights) 0)
   unit_place q low =
       let long = length_zeros (length T.weights) in

@@ -1,5 +1,5 @@
 -- The degrees of the polynomials of kernel evidence: a list of kernel evidence has no degree over a cap where the graph has nothing above it.
-use Rattle.std.proofs.Common.{◌≡◌, ◌∙◌, inl, inr, ◌+◌, ◌-◌, ◌*◌, ◌<◌, ◌≤◌, ℕ, suc, List, [], ◌∷◌, ◌++◌, length, map, replicate, refl, sym, ap, subst, arith, suc-mul}
+use Rattle.std.proofs.Common.{◌≡◌, ◌∙◌, inl, inr, ◌+◌, ◌-◌, ◌*◌, ◌<◌, ◌≤◌, ℕ, zero, suc, List, [], ◌∷◌, ◌++◌, length, map, replicate, refl, sym, ap, subst, arith, suc-mul}
 use Rattle.std.specs.Prelude.{All}
 use native.Mathlib.Decide.{dec_le}
 use Rattle.alg_core.specs.Fields.{FieldOn, scalars, is_field}
@@ -23,6 +23,7 @@ use Rattle.poly_module.specs.Substitutions.{substitute_zero}
 use Rattle.poly_module.proofs.CombinationLaws.{combination_value_zero}
 use Rattle.lin_algebra.specs.declared.matrix.Matrix.{Matrix}
 use Rattle.matrix_group.specs.Actions.{IsSquare, Invariant}
+use Rattle.module_groebner.specs.HomogeneousLists.{IsHomogeneousUpTo}
 use Rattle.finite_certificate.specs.MarkSpaces.{ArePositiveForms, IsMarkSpace}
 use Rattle.finite_certificate.specs.StandardMonomials.{AreStandardMonomials, CoordinatesAreUnique}
 use Rattle.finite_certificate.proofs.PowerForms.{forms_count}
@@ -69,6 +70,24 @@ module _ {E : Type 0} (k : FieldOn E) (n : ℕ) (ds : List ℕ) (gens : List (Ma
   unfolding degree
   last_degree w positions graded = linear_supp k (last_part k n gens B) (last_linear k n gens B) GraphKey (OfDegree k (replicate n 1 ++ ds) d) (of_degree k (replicate n 1 ++ ds) d)
       last_key w (λ t e. ((positions t e).0, (positions t e).1, graded t e))
+
+module _ {E : Type 0} (S : SpaceOver E) (n : ℕ) (ds : List ℕ) (space : IsMarkSpace S n ds) (gens : List (Matrix E)) (B : List (List ℕ)) (wide : All (λ b. length b ≡ n) B) (cap : ℕ) where
+  -- the polynomials of the members that list homogeneous vectors are homogeneous
+  pub listed_degrees : (ws : List (Vect S.field)) (ms : List (Member E)) → AreListedAs S.field n gens B ws ms
+      → ((w : Vect S.field) → In w ws → IsCombination S.field (length ds) (suc (length gens) * length B) w × IsHomogeneousUpTo (graph_space S.field ds (length gens) B) cap w)
+      → All (λ (m : Member E). IsHomogeneousUpTo S cap (polynomial_of S.field m)) ms
+  listed_degrees [] [] h each i d l = absurd (omega arith)
+  listed_degrees [] (m ∷ ms) h each i d l = absurd h
+  listed_degrees (w ∷ ws) [] h each i d l = absurd h
+  listed_degrees (w ∷ ws) (m ∷ ms) h each zero d l =
+      let p = each w (inl refl) in (
+        p.1.0,
+        p.1.1,
+        subst (IsHomogeneous S p.1.0) (sym h.0.last)
+            (form_homogeneous S space.shift p.1.0 (last_part S.field n gens B w)
+            (subst (λ (vs : List ℕ). IsForm S.field vs p.1.0 (last_part S.field n gens B w)) (sym space.weights) (last_degree S.field n ds gens B wide p.1.0 w p.0 p.1.2))),
+      )
+  listed_degrees (w ∷ ws) (m ∷ ms) h each (suc i) d l = listed_degrees ws ms h.1 (λ v j. each v (inr j)) i d (omega arith)
 
 module _ {E : Type 0} (k : FieldOn E) (n : ℕ) (gens : List (Matrix E)) (B : List (List ℕ)) where
   -- the member that lists a vector

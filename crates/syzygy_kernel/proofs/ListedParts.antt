@@ -5,7 +5,8 @@ use native.Mathlib.Decide.{dec_le}
 use Rattle.alg_core.specs.MonomialParts.{variable_part, mark_part}
 use Rattle.alg_core.specs.Monomials.{Mon, mono, mon_ext, mon_same, mono_injective, exponent, exponent_mono}
 use Rattle.alg_core.proofs.MonomialParts.{exponent_variable_part, exponent_mark_part, variable_part_past}
-use Rattle.primary_module.specs.Positions.{place_of, zero_or}
+use Rattle.primary_module.specs.Positions.{AreDifferent, part_at, place_of, zero_or}
+use Rattle.primary_module.proofs.Places.{place_part}
 use Rattle.syzygy_kernel.specs.Fronts.{is_front}
 
 exponent_taken : (n : ℕ) (b : List ℕ) (i : ℕ) → i < n → exponent (take n b) i ≡ exponent b i
@@ -105,3 +106,16 @@ module _ (n : ℕ) (b : List ℕ) (long : n ≤ length b) where
   place_past [] (suc i) l = no_place _
   place_past (c ∷ B) zero l = absurd (omega arith)
   place_past (c ∷ B) (suc i) l = place_past B i (omega arith)
+
+  part_listed : (B : List (List ℕ)) (i : ℕ) (a : List ℕ) → i < length B → a ≡ get_or B i a → part_at B i ≡ mono a
+  unfolding part_at
+  part_listed [] i a l e = absurd (omega arith)
+  part_listed (c ∷ B) zero a l e = ap mono (sym e)
+  part_listed (c ∷ B) (suc i) a l e = part_listed B i a (omega arith) e
+
+  -- a member that is the part stands at its place
+  pub place_found : (B : List (List ℕ)) → AreDifferent B → All (λ a. length a ≡ n) B → (i : ℕ) (a : List ℕ) → i < length B → a ≡ get_or B i a → is_front a b ≡ true
+      → place_of B (variable_part n (mono b)) ≡ i
+  place_found B different wide i a l e h =
+      let long : length a ≡ n = ap length e ∙ wide i a l in
+      ap (place_of B) (sym (part_listed B i a l e ∙ front_part a long h)) ∙ place_part B different i l

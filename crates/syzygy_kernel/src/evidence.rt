@@ -1,8 +1,8 @@
 ghost use Rattle.std.specs.Prelude.{◌≡◌, ◌≤◌, ◌<◌, ◌^◌, Err, IfOk, All, length};
-ghost use Rattle.poly_module.specs.SpaceVectors.{IsPoly, AreVectors, vectors_of};
+ghost use Rattle.poly_module.specs.SpaceVectors.{IsPoly, AreVectors, vector_of, vectors_of};
 ghost use Rattle.matrix_group.specs.Actions.{IsSquare, Invariant};
 ghost use Rattle.module_groebner.specs.BasisBounds.{NothingAbove, IsBasisBound};
-ghost use Rattle.module_groebner.specs.HomogeneousLists.{cap_limit};
+ghost use Rattle.module_groebner.specs.HomogeneousLists.{cap_limit, IsHomogeneousUpTo, AreHomogeneousUpTo};
 ghost use Rattle.module_groebner.specs.declared.bound.BasisBound.{BasisBound as Bound};
 ghost use Rattle.module_groebner.specs.declared.bound.BasisFault.TheVariants as faults;
 ghost use Rattle.module_groebner.specs.declared.bound.Which.TheVariants.{Graph};
@@ -44,6 +44,8 @@ fn graph_basis<F: Field>(
     requires first { graph.now.order.first ≡ first_block gens.now primaries.now.monomials }
     requires low { length graph.now.grading.shifts.items < 2 ^ 64 }
     ensures fit { IfOk result (λ vs. AreVectors (block_space F.field graph.now) (λ m. m) vs.items) }
+    ensures homogeneous { let T = block_space F.field graph.now in
+        IfOk result (λ vs. AreHomogeneousUpTo T cap (vectors_of T (λ m. m) vs.items)) }
     ensures reduced { let S = mark_space F.field space.now in let θ = vectors_of S (λ m. m) primaries.now.theta in
         let B = primaries.now.monomials in let G = graph_space S.field space.now.order.weights.items (length gens.now) B in
         IfOk result (λ vs. IsReducedBasisOf G (InGraph S.field θ gens.now B) (vectors_of G (λ m. m) vs.items)) }
@@ -82,6 +84,8 @@ pub fn kernel<F: Field>(
         All (Invariant S.field gens.now) (vectors_of S (λ m. m) primaries.now.theta) }
     requires cap { cap ≤ cap_limit }
     ensures polynomials { IfOk result (λ ms. All (λ m. IsPoly (mark_space F.field space.now) (λ m. m) m.u) ms.items) }
+    ensures homogeneous { let S = mark_space F.field space.now in
+        IfOk result (λ ms. All (λ m. IsHomogeneousUpTo S cap (vector_of S (λ a. a) m.u)) ms.items) }
     ensures kernel { let S = mark_space F.field space.now in let θ = vectors_of S (λ m. m) primaries.now.theta in
         let B = primaries.now.monomials in
         IfOk result (λ ms. AreKernel S.field space.now.order.vars space.now.order.weights.items θ gens.now B ms.items) }

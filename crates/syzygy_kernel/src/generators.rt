@@ -6,12 +6,12 @@ ghost use Rattle.poly_module.specs.SpaceVectors.{AreVectors, IsVectorOf, vector_
 ghost use Rattle.matrix_group.specs.Actions.{IsSquare};
 ghost use Rattle.module_groebner.specs.HomogeneousLists.{degree_limit, AreHomogeneousUpTo};
 ghost use Rattle.finite_certificate.specs.MarkSpaces.{mark_space};
-ghost use Rattle.primary_module.specs.Positions.{at_positions};
+ghost use Rattle.primary_module.specs.Positions.{AreDifferent, at_positions};
 ghost use Rattle.primary_module.specs.PrimaryModules.{StandsOver};
 ghost use Rattle.syzygy_kernel.specs.Graphs.{AreGenerators, first_block, graph_space};
 ghost use Rattle.syzygy_kernel.specs.GraphVectors.{HasPlaces, AreAllDifferences, block_space, raised, graph_vector as vector_over};
 
-use crate::places::{marks_of, place_in};
+use crate::places::{marks_of, place_near};
 use alg_core::{BlockOrder, ElimOrder, Field, Memory, ModTerm, Mono, Monomial, Space, Term};
 use lin_algebra::Matrix;
 use poly_module::{Poly, Vector, add, make, single};
@@ -28,6 +28,7 @@ fn part_vector<F: Field>(
     start: u64,
 ) -> Result<Vector<F::Elem, Mono>, Memory>
     requires wide { All (λ a. length a ≡ n) monomials.now }
+    requires different { AreDifferent monomials.now }
     requires order { length graph.now.order.weights.items ≡ length graph.now.grading.weights.items }
     requires polynomial { HasPlaces (F.field graph.now.field) n (length graph.now.grading.weights.items) monomials.now polynomial.now }
     requires within { start + length monomials.now ≤ length graph.now.grading.shifts.items }
@@ -37,10 +38,12 @@ fn part_vector<F: Field>(
 {
     let given = polynomial.terms();
     let mut terms = Vec::new(alloc);
+    let mut place = monomials.len();
     for i in 0..given.len() {
         let term = &given[i];
         let mono = marks_of(alloc, n, &term.at.mono)?;
-        let pos = start + place_in(n, monomials, &term.at.mono) as u64;
+        place = place_near(n, monomials, &term.at.mono, place);
+        let pos = start + place as u64;
         let at = ModTerm { pos, mono };
         terms.push(Term {
             coef: term.coef,
@@ -80,6 +83,7 @@ fn graph_vector<F: Field>(
     place: usize,
 ) -> Result<Vector<F::Elem, Mono>, Memory>
     requires wide { All (λ a. length a ≡ n) monomials.now }
+    requires different { AreDifferent monomials.now }
     requires order { length graph.now.order.weights.items ≡ length graph.now.grading.weights.items }
     requires first { graph.now.order.first ≡ length differences.now * length monomials.now }
     requires shifts { length graph.now.grading.shifts.items ≡ suc (length differences.now) * length monomials.now }

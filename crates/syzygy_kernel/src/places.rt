@@ -1,7 +1,7 @@
 ghost use Rattle.std.specs.Prelude.{◌≡◌, ◌≤◌, IfOk, All, drop, length};
 ghost use Rattle.alg_core.specs.MonomialParts.{variable_part};
 ghost use Rattle.alg_core.specs.Monomials.{mono as monomial_of};
-ghost use Rattle.primary_module.specs.Positions.{place_of};
+ghost use Rattle.primary_module.specs.Positions.{AreDifferent, place_of};
 ghost use Rattle.syzygy_kernel.specs.Fronts.{is_front};
 
 use alg_core::{Memory, Mono, Monomial};
@@ -21,7 +21,7 @@ fn is_part(a: &Mono, b: &Mono) -> bool
 }
 
 /// The place of the part in n variables of the monomial, from 0; past the end where it is not there.
-pub(crate) fn place_in(n: u32, monomials: &[Mono], mono: &Mono) -> usize
+fn place_in(n: u32, monomials: &[Mono], mono: &Mono) -> usize
     requires wide { All (λ a. length a ≡ n) monomials.now }
     requires long { n ≤ length mono.now }
     ensures is { result ≡ place_of monomials.now (variable_part n (monomial_of mono.now)) }
@@ -32,6 +32,29 @@ pub(crate) fn place_in(n: u32, monomials: &[Mono], mono: &Mono) -> usize
         }
     }
     monomials.len()
+}
+
+/// The place of the part in n variables of the monomial, from 0; past the end where it is not there. It
+/// is looked for downwards from the place `near`, and then everywhere: so the places of parts that fall,
+/// where the monomials rise, are found on one way down.
+pub(crate) fn place_near(n: u32, monomials: &[Mono], mono: &Mono, near: usize) -> usize
+    requires wide { All (λ a. length a ≡ n) monomials.now }
+    requires different { AreDifferent monomials.now }
+    requires long { n ≤ length mono.now }
+    ensures is { result ≡ place_of monomials.now (variable_part n (monomial_of mono.now)) }
+{
+    let mut i = if near < monomials.len() {
+        near + 1
+    } else {
+        monomials.len()
+    };
+    while i > 0 {
+        i -= 1;
+        if is_part(&monomials[i], mono) {
+            return i;
+        }
+    }
+    place_in(n, monomials, mono)
 }
 
 /// The marks of the monomial, as variables.

@@ -4,7 +4,8 @@ use Rattle.finite_certificate.specs.MarkSpaces.{mark_space}
 use Rattle.module_groebner.specs.declared.bound.BasisFault.TheVariants as faults
 use Rattle.primary_module.proofs.MonomialSteps.{error_same}
 use Rattle.syzygy_kernel.specs.Graphs.{graph_space}
-use Rattle.syzygy_kernel.proofs.KernelGiven.{low_monomials, kernel_given, kernel_complete}
+use Rattle.syzygy_kernel.specs.GraphVectors.{block_space}
+use Rattle.syzygy_kernel.proofs.KernelGiven.{low_monomials, kernel_given, kernel_complete, kernel_homogeneous}
 use Rattle.syzygy_kernel.proofs.evidence.kernel.Goals as goal
 
 pub new_graph_space-requires-clause-low : goal.new_graph_space-requires-clause-low
@@ -36,3 +37,13 @@ returns-clause-complete g c =
     kernel_complete (mark_space g.F.Field.field c.args.space.now) c.args.space.now.order.vars c.args.space.now.order.weights.items c.args.primaries.now c.requires.stands
     c.monomials-monomials.result.now c.monomials-monomials.ensures.is c.args.gens.now c.in_ok-basis.basis.items c.in_ok-basis.ensures.reduced
     c.as_slice.result.now c.as_slice.ensures.value c.in_ok-members.members.items c.in_ok-members.ensures.listed c.requires.square c.requires.fixed
+
+pub returns-clause-homogeneous : goal.returns-clause-homogeneous
+returns-clause-homogeneous g c =
+    let k = g.F.Field.field c.args.space.now.field in
+    kernel_homogeneous (mark_space g.F.Field.field c.args.space.now) c.args.space.now.order.vars c.args.space.now.order.weights.items c.args.primaries.now c.requires.stands
+    c.monomials-monomials.result.now c.monomials-monomials.ensures.is c.args.gens.now c.in_ok-basis.basis.items c.in_ok-basis.ensures.reduced
+    c.as_slice.result.now c.as_slice.ensures.value c.in_ok-members.members.items c.in_ok-members.ensures.listed c.args.cap c.requires.stands.is.space
+    (block_space g.F.Field.field c.in_ok-graph.graph)
+    (c.in_ok-graph.ensures.is ∙ ap (λ B. graph_space k c.args.space.now.order.weights.items (length c.args.gens.now) B) c.monomials-monomials.ensures.is)
+    c.in_ok-basis.ensures.homogeneous

@@ -1,10 +1,18 @@
-use Rattle.std.proofs.Common.{◌≡◌, length, refl, subst, arith}
-use Rattle.poly_module.specs.SpaceVectors.{IsVectorOf}
+use Rattle.std.proofs.Common.{◌≡◌, length, refl, sym, subst, arith}
+use Rattle.poly_module.specs.SpaceVectors.{IsVectorOf, vectors_of}
 use Rattle.finite_certificate.specs.MarkSpaces.{mark_space}
+use Rattle.primary_module.specs.Positions.{AreDifferent}
+use Rattle.primary_module.proofs.Places.{standard_different}
 use Rattle.syzygy_kernel.specs.GraphVectors.{block_space}
 use Rattle.syzygy_kernel.proofs.GraphCalls.{call_first, call_shifts, call_places, end_generators, end_homogeneous}
 use Rattle.syzygy_kernel.proofs.GraphLists.{over_place, over_more, over_fit, graph_exponents}
 use Rattle.syzygy_kernel.proofs.generators.graph_generators.Goals as goal
+
+pub graph_vector-requires-clause-different : goal.graph_vector-requires-clause-different
+graph_vector-requires-clause-different g c =
+    let S = mark_space g.F.Field.field c.args.space.now in
+    subst AreDifferent (sym c.monomials-monomials.ensures.is)
+    (standard_different c.args.space.now.order.vars S.field (vectors_of S (λ m. m) c.args.primaries.now.theta) c.args.primaries.now.monomials c.requires.stands.monomials)
 
 pub graph_vector-requires-clause-order : goal.graph_vector-requires-clause-order
 graph_vector-requires-clause-order g c =

@@ -14,8 +14,8 @@ marks_of-requires g c =
     let read : x ≡ get_or c.args.polynomial.now c.loop-i.i x = c.index-given-i.is ∙ ap (λ l. get_or l c.loop-i.i x) c.terms-given.ensures.is in
     record { long = term_wide T.field c.args.n c.args.monomials.now c.args.start (length T.weights) c.args.polynomial.now c.requires.polynomial c.loop-i.i x T inside read }
 
-pub place_in-requires-clause-long : goal.place_in-requires-clause-long
-place_in-requires-clause-long g c =
+pub place_near-place-requires-clause-long : goal.place_near-place-requires-clause-long
+place_near-place-requires-clause-long g c =
     let T = block_space g.F.Field.field c.args.graph.now in
     let x = c.index-given-i.result in
     let many = ap length c.terms-given.ensures.is in
@@ -33,7 +33,7 @@ overflow_add-pos g c =
     let low = term_place T.field c.args.n c.args.monomials.now c.args.start (length T.weights) c.args.polynomial.now c.requires.polynomial c.loop-i.i x T inside read in
     let within = c.requires.within in
     let all = c.requires.low in
-    let is = c.place_in.ensures.is in
+    let is = c.place_near-place.ensures.is in
     omega arith
 
 pub make-requires : goal.make-requires
