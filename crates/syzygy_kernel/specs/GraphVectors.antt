@@ -19,6 +19,7 @@ use Rattle.alg_core.specs.declared.term.Term.{Term}
 use Rattle.alg_core.specs.Vectors.{Vect, plus, zero_vector}
 use Rattle.poly_module.specs.Polynomials.{single_vector, product}
 use Rattle.lin_algebra.specs.declared.matrix.Matrix.{Matrix}
+use Rattle.secondary_gens.specs.Lists.{Each}
 use Rattle.primary_module.specs.PrimaryModules.{AreStandardDifferences}
 use Rattle.primary_module.specs.Positions.{IsPart, at_positions}
 
@@ -27,10 +28,7 @@ block_space field s = over field (λ o. elimination_order o.first o.weights.item
 
 module _ {E : Type 0} (S : SpaceOver E) (n : ℕ) (θ : List (Vect S.field)) (B : List (List ℕ)) where
   abbrev pub AreAllDifferences : List (Matrix E) → List (List (List (Term E (List ℕ)))) → Type 0
-  AreAllDifferences [] [] = Unit {0}
-  AreAllDifferences [] (ps ∷ pss) = ⊥
-  AreAllDifferences (m ∷ gens) [] = ⊥
-  AreAllDifferences (m ∷ gens) (ps ∷ pss) = AreStandardDifferences S n θ m B ps × AreAllDifferences gens pss
+  AreAllDifferences = Each (λ m ps. AreStandardDifferences S n θ m B ps)
 
 module _ {E : Type 0} (k : FieldOn E) where
   pub record HasPlaces (n r : ℕ) (B : List (List ℕ)) (p : List (Term E (List ℕ))) : Type 0 where

@@ -15,6 +15,7 @@ use Rattle.poly_module.specs.Combinations.{mark_value}
 use Rattle.poly_module.specs.ReducedLists.{IsReducedBasisOf}
 use Rattle.lin_algebra.specs.declared.matrix.Matrix.{Matrix}
 use Rattle.module_groebner.specs.Eliminations.{IsEliminated}
+use Rattle.secondary_gens.specs.Lists.{Each}
 use Rattle.syzygy_kernel.specs.Graphs.{InGraph, first_block, graph_space, last_part}
 use Rattle.syzygy_kernel.specs.declared.member.Member.{Member}
 
@@ -35,10 +36,7 @@ module _ {E : Type 0} (k : FieldOn E) where
         pub fixed : IsTrue m.is_fixed ↔ IsEliminated k (first_block gens B) w
 
       abbrev pub AreListedAs : List (Vect k) → List (Member E) → Type 0
-      AreListedAs [] [] = Unit {0}
-      AreListedAs [] (m ∷ ms) = ⊥
-      AreListedAs (w ∷ ws) [] = ⊥
-      AreListedAs (w ∷ ws) (m ∷ ms) = IsListedAs w m × AreListedAs ws ms
+      AreListedAs = Each IsListedAs
 
     -- the last parts of the reduced basis of the graph
     pub record AreKernel (ds : List ℕ) (θ : List (Vect k)) (gens : List (Matrix E)) (B : List (List ℕ)) (ms : List (Member E))
