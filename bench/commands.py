@@ -127,7 +127,7 @@ def main():
         if other and task:
             first = run([other, "-q"], task)
             theirs = [first] + [run([other, "-q"], task) for _ in range(runs - 1) if first]
-            ratio = "failed or 120 s" if None in theirs else f"{min(t[0] for t in theirs) / least:.1f}"
+            ratio = "failed or 120 s" if None in theirs else f"{min(t[0] for t in theirs) / least:.2g}"
         median = statistics.median(g[0] for g in got)
         print(f"{name:<40} {least:8.3f} {median:9.3f} {max(g[1] for g in got):6.0f} {got[0][2]:6d} {ratio:>14}")
 
