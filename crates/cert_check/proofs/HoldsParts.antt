@@ -1,18 +1,15 @@
 -- What the items of the conditions say of all members of a list, and what the parts of a certificate are by their spaces.
-use Rattle.std.proofs.Common.{◌≡◌, ◌∙◌, ◌+◌, ◌-◌, ◌<◌, ℕ, List, [], ◌∷◌, ◌++◌, length, get_or, refl, sym, subst, inl, inr, arith}
+use Rattle.std.proofs.Common.{◌≡◌, ◌∙◌, ◌+◌, ◌-◌, ◌<◌, ℕ, List, ◌++◌, length, get_or, refl, sym, subst, arith}
 use Rattle.std.specs.Prelude.{All}
 use Rattle.std.proofs.lemmas.List.{length-map, length-append}
 use Rattle.std.proofs.lemmas.List.Elements.{All-map}
 use Rattle.std.proofs.lemmas.Option.{slice_get-get_or}
 use Rattle.alg_core.specs.BlockOrder.{length_ones}
 use Rattle.alg_core.specs.Fields.{FieldOn}
-use Rattle.alg_core.specs.Lists.{In}
-use Rattle.alg_core.specs.SpaceGrading.{AllPositive}
 use Rattle.alg_core.specs.Spaces.{SpaceOver, entries}
 use Rattle.alg_core.specs.Vectors.{Vect}
 use Rattle.alg_core.specs.declared.term.Term.{Term}
 use Rattle.poly_module.specs.Combinations.{IsCombination}
-use Rattle.poly_module.specs.Forms.{AreForms}
 use Rattle.poly_module.specs.Parts.{InVariables}
 use Rattle.poly_module.specs.SpaceVectors.{IsPoly, IsVector, vector_of}
 use Rattle.poly_module.proofs.FittingKeys.{vec_in_variables, vec_positions}
@@ -20,7 +17,6 @@ use Rattle.poly_module.proofs.SpaceVectorLaws.{is_polynomial}
 use Rattle.lin_algebra.specs.declared.matrix.Matrix.{Matrix}
 use Rattle.secondary_gens.specs.Forms.{degree_of}
 use Rattle.irreducible_gens.specs.Algebras.{IsWord}
-use Rattle.irreducible_gens.specs.Irreducibles.{IsOfPositiveDegree}
 use Rattle.certificate_io.specs.Certificates.{CertificateOf}
 use Rattle.cert_check.specs.Parts.{At, size, polynomial, primaries, secondaries, irreducibles, words, degrees, secondary_degrees, irreducible_degrees}
 use Rattle.cert_check.specs.WellFormed.{IsWellFormed, plain, combined, worded}
@@ -45,15 +41,6 @@ module _ {E : Type 0} (S : SpaceOver E) where
 
   pub vector_combination : (v : List (Term E (List ℕ))) → IsVector S (λ m. m) v → IsCombination S.field (length S.weights) (length S.shifts) (vector_of S (λ m. m) v)
   vector_combination v h t c = (vec_in_variables S (entries (λ m. m) v) h t c, vec_positions S (entries (λ m. m) v) h t c)
-
-module _ {E : Type 0} (k : FieldOn E) (ws : List ℕ) where
-  -- forms of positive degrees, with their degrees
-  pub positive_forms : (fs : List (Vect k)) → ((f : Vect k) → In f fs → IsOfPositiveDegree k ws f) → (ds : List ℕ) × AreForms k ws ds fs × AllPositive ds
-  positive_forms [] h = ([], tt, tt)
-  positive_forms (f ∷ fs) h =
-      let here = h f (inl refl) in
-      let rest = positive_forms fs (λ g i. h g (inr i)) in
-      (here.degree ∷ rest.0, (here.form, rest.1), (here.positive, rest.2))
 
 module _ (k : FieldOn ℕ) (gens : List (Matrix ℕ)) (c : CertificateOf ℕ) (given : IsWellFormed k c gens) where
   abbrev θ : List (Vect k)

@@ -18,11 +18,12 @@ use Rattle.irreducible_gens.specs.Algebras.{InAlgebra}
 use Rattle.irreducible_gens.specs.Irreducibles.{IsIrreducible, IsOfPositiveDegree, IsReducible}
 use Rattle.certificate_io.specs.Certificates.{CertificateOf}
 use Rattle.cert_check.specs.Conditions.{Primaries, Powers, Secondaries, Evidence, Redundance, Words, Reducibility, Holds}
-use Rattle.cert_check.specs.Parts.{size, ones, polynomial, primaries, powers, secondaries, irreducibles, words}
+use Rattle.cert_check.specs.Parts.{size, ones, polynomial, primaries, powers, secondaries, irreducibles, words, degrees}
 use Rattle.cert_check.specs.Properties.{HasProperties}
 use Rattle.cert_check.specs.WellFormed.{IsWellFormed}
 use Rattle.cert_check.proofs.HoldsComplete.{complete_by}
-use Rattle.cert_check.proofs.HoldsParts.{all_at, at_place, none_at, positive_forms, primaries_in_variables, words_fit}
+use Rattle.cert_check.proofs.HoldsParts.{all_at, at_place, none_at, primaries_in_variables, words_fit}
+use Rattle.cert_check.proofs.MadeForms.{forms_known, positive_known, positive_proper}
 
 module _ (k : FieldOn ℕ) (gens : List (Matrix ℕ)) (c : CertificateOf ℕ) (given : IsWellFormed k c gens) (holds : Holds k gens c) where
   abbrev θ : List (Vect k)
@@ -50,10 +51,15 @@ module _ (k : FieldOn ℕ) (gens : List (Matrix ℕ)) (c : CertificateOf ℕ) (g
   holds_irreducibles i d l = all_in (Invariant k gens) S holds_secondaries (get_or Q i d) (generators_are i d l).0
 
   -- the primary invariants as forms, with their degrees
-  forms : (ds : List ℕ) × ArePositiveForms k (size c) ds θ
-  forms =
-      let f = positive_forms k (ones c) θ (λ f i. (all_in (λ f. IsOfPositiveDegree k (ones c) f × Invariant k gens f) θ primaries_are f i).0) in
-      (f.0, record { forms = f.1; variables = primaries_in_variables k gens c given; positive = f.2 })
+  positive : (f : Vect k) → In f θ → IsOfPositiveDegree k (ones c) f
+  positive f i = (all_in (λ f. IsOfPositiveDegree k (ones c) f × Invariant k gens f) θ primaries_are f i).0
+
+  forms : ArePositiveForms k (size c) (degrees c) θ
+  forms = record {
+    forms = forms_known k (size c) c.primaries given.primaries (λ f i. positive_proper k (size c) f (positive f i));
+    variables = primaries_in_variables k gens c given;
+    positive = positive_known k (size c) c.primaries given.primaries positive;
+  }
 
   abbrev power : Power ℕ → ℕ × Vect k
   power x = (x.exponent, polynomial k x.form)
@@ -79,10 +85,10 @@ module _ (k : FieldOn ℕ) (gens : List (Matrix ℕ)) (c : CertificateOf ℕ) (g
   same_exponents (p ∷ ps) = ap (λ es. p.exponent ∷ es) (same_exponents ps)
 
   pub holds_spanned : Spanned k (size c) θ (map (λ x. x.exponent) c.powers)
-  holds_spanned = subst (Spanned k (size c) θ) (same_exponents c.powers) (finite_spans k (size c) forms.0 θ forms.1 (powers k c) holds_finite)
+  holds_spanned = subst (Spanned k (size c) θ) (same_exponents c.powers) (finite_spans k (size c) (degrees c) θ forms (powers k c) holds_finite)
 
   pub holds_complete : IsComplete k (size c) gens θ S
-  holds_complete = complete_by k gens c given forms.0 forms.1 holds_primaries c.evidence given.evidence (holds Evidence)
+  holds_complete = complete_by k gens c given forms holds_primaries c.evidence given.evidence (holds Evidence)
 
   pub holds_irredundant : IsIrredundant k θ S
   holds_irredundant = none_at (IsRedundant k θ S) S (zero_vector k) (holds Redundance)

@@ -8,4 +8,5 @@ pub mod MadeLifts
 pub mod MadePowers
 pub mod MadeHolds
 pub mod MadeLists
+pub mod MadeLines
 pub mod MadeOnce

@@ -1,6 +1,6 @@
 -- A certificate that is made meets the conditions.
 use Rattle.std.proofs.Common.{◌≡◌, ℕ, ◌-◌, ◌<◌, List, ◌++◌, length, replicate, sym, subst, arith}
-use Rattle.std.specs.Prelude.{All, Some, slice_get}
+use Rattle.std.specs.Prelude.{All, IfSome, Option, Some, None, slice_get}
 use Rattle.alg_core.specs.BlockOrder.{length_ones}
 use Rattle.alg_core.specs.Fields.{FieldOn}
 use Rattle.alg_core.specs.Lists.{In}
@@ -10,6 +10,8 @@ use Rattle.alg_core.specs.Spaces.{entries}
 use Rattle.alg_core.specs.Vectors.{Vect}
 use Rattle.alg_core.proofs.Members.{from_map}
 use Rattle.alg_core.proofs.PolynomialSpaces.{plain_positive}
+use Rattle.poly_module.specs.declared.vector.Comb.{Comb}
+use Rattle.poly_module.specs.Combinations.{mark_value}
 use Rattle.poly_module.specs.Forms.{IsForm, AreForms}
 use Rattle.poly_module.specs.Parts.{IsPolynomial, InVariables}
 use Rattle.poly_module.specs.Polynomials.{single_vector}
@@ -17,6 +19,7 @@ use Rattle.poly_module.specs.SpaceVectors.{IsPoly}
 use Rattle.poly_module.proofs.FittingKeys.{vec_in_variables}
 use Rattle.poly_module.proofs.SpaceVectorLaws.{is_polynomial}
 use Rattle.lin_algebra.specs.declared.matrix.Matrix.{Matrix}
+use Rattle.matrix_group.specs.Actions.{Invariant}
 use Rattle.matrix_group.specs.Groups.{IsNonsingular}
 use Rattle.module_groebner.proofs.Families.{all_in, in_all}
 use Rattle.reynolds_op.specs.Averages.{IsAverage}
@@ -34,8 +37,8 @@ use Rattle.certificate_io.specs.Certificates.{CertificateOf, EvidenceOf, Average
 use Rattle.finite_certificate.specs.declared.power.Power.{Power}
 use Rattle.cert_check.specs.Parts.{size, ones, polynomial, primaries, lifts, powers, secondaries, irreducibles, words, degrees}
 use Rattle.cert_check.specs.WellFormed.{IsWellFormed, plain, marked}
-use Rattle.cert_check.specs.Makings.{IsMade, IsEvidenceOf}
-use Rattle.cert_check.specs.Conditions.{K1, K2, K3, K4, K5, K6, K7, MeetsEvidence, K9, K10, K11, Group, Primaries, Lifts, Powers, LiftBasis, Rank, Secondaries, Evidence, Redundance, Words, Reducibility, Holds}
+use Rattle.cert_check.specs.Makings.{IsMade, IsPrinted, IsEvidenceOf}
+use Rattle.cert_check.specs.Conditions.{K1, K2, K3, K4, K5, K6, K7, IsValue, MeetsEvidence, K9, K10, K11, Group, Primaries, Lifts, Powers, LiftBasis, Rank, Secondaries, Evidence, Redundance, Words, Reducibility, Holds}
 use Rattle.cert_check.proofs.MadePlaces.{place_in, place_within, place_read, place_map}
 use Rattle.cert_check.proofs.MadeForms.{IsProperForm, forms_known, positive_proper, positive_known, form_member}
 use Rattle.cert_check.proofs.MadeLifts.{is_mark_space, lift_form, lift_value}
@@ -78,6 +81,9 @@ module _ (k : FieldOn ℕ) (gens : List (Matrix ℕ)) (c : CertificateOf ℕ) (t
 
   made_group : ((m : Matrix ℕ) → In m gens → IsNonsingular k m) → (i : ℕ) → K1 k gens c i
   made_group nonsingular i = record { matrix = λ m h. nonsingular m (place_in gens h.0 m h.2); order = λ e. made.order }
+
+  pub primaries_fixed : All (Invariant k gens) (primaries k c)
+  primaries_fixed = in_all (Invariant k gens) (primaries k c) (λ f i. (small f i).form.invariant)
 
   made_primaries : (j : ℕ) → K2 k gens c j
   made_primaries j f h = let i = place_in (primaries k c) h.0 f h.2 in (positive_form f i, (small f i).form.invariant)
@@ -128,12 +134,19 @@ module _ (k : FieldOn ℕ) (gens : List (Matrix ℕ)) (c : CertificateOf ℕ) (t
       let p = proper_secondary f i in
       (record { not_zero = p.not_zero; degree = p.degree; form = p.form }, (secondaries_fixed_not_zero (plain k c) gens (primaries k c) (secondaries k c) made.are_secondaries f i).0)
 
+  value_printed : (f : Vect k) (x : Option (Comb ℕ)) → IfSome x (IsPrinted k gens c f) → IsValue k gens c f x
+  value_printed f None h = tt
+  value_printed f (Some y) h = h.value
+
   made_evidence : (e : EvidenceOf ℕ) → IsEvidenceOf k gens c e → (i : ℕ) → MeetsEvidence k gens c e i
   made_evidence (Averages xs) h i = record {
     whole = λ e. (h.characteristic, h.standard);
     line = λ x at. let m = h.images at.0 x at.2 in subst (IsAverage k gens (single_vector k (0, mono x.mono))) (sym m.printed.value) m.is;
   }
-  made_evidence (Members ls) h i = absurd h
+  made_evidence (Members ls) h i = record {
+    whole = λ e. (h.basis, h.standard, h.kernel);
+    line = λ l at. value_printed (mark_value k (size c) (primaries k c) (polynomial k l.u)) l.comb (h.lines at.0 l at.2);
+  }
 
   irredundant : IsIrredundant k (primaries k c) (secondaries k c)
   irredundant = secondaries_irredundant (plain k c) gens (primaries k c) (secondaries k c) made.are_secondaries (degrees c)

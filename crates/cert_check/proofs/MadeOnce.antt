@@ -1,6 +1,7 @@
 -- There is one certificate that is made from given matrices, with given names of the variables.
-use Rattle.std.proofs.Common.{◌≡◌, ◌∙◌, ℕ, List, [], ◌++◌, length, sym, ap, ap₂, subst, ext_get_or, arith}
+use Rattle.std.proofs.Common.{◌≡◌, ◌∙◌, ℕ, List, [], ◌++◌, length, map, sym, ap, ap₂, subst, ext_get_or, arith}
 use Rattle.std.specs.Prelude.{All, Some, slice_get}
+use Rattle.std.specs.Int.{◌∣◌}
 use Rattle.std.proofs.lemmas.List.{length-map}
 use Rattle.alg_core.specs.Fields.{FieldOn}
 use Rattle.alg_core.specs.Monomials.{mono}
@@ -33,13 +34,18 @@ use Rattle.irreducible_gens.proofs.Chosen.{Skips}
 use Rattle.irreducible_gens.proofs.OneWord.{one_word}
 use Rattle.certificate_io.specs.Certificates.{CertificateOf, EvidenceOf, Averages, Members}
 use Rattle.certificate_io.specs.declared.evidence.Image.{Image}
-use Rattle.cert_check.specs.Parts.{size, ones, polynomial, primaries, lifts, powers, secondaries, irreducibles, degrees, secondary_degrees, irreducible_degrees, monomials}
-use Rattle.cert_check.specs.WellFormed.{IsWellFormed, IsImage, AreEvidence, plain, marked, combined, worded}
-use Rattle.cert_check.specs.Makings.{IsMade, AreAveragesOf, IsEvidenceOf}
+use Rattle.certificate_io.specs.declared.evidence.Line.{Line}
+use Rattle.syzygy_kernel.specs.Kernels.{AreKernel, polynomial_of}
+use Rattle.syzygy_kernel.specs.declared.member.Member.{Member}
+use Rattle.syzygy_kernel.proofs.OneKernel.{one_kernel}
+use Rattle.cert_check.specs.Parts.{size, ones, polynomial, primaries, lifts, powers, secondaries, irreducibles, degrees, secondary_degrees, irreducible_degrees, monomials, members as members_of}
+use Rattle.cert_check.specs.WellFormed.{IsWellFormed, IsImage, IsMember, AreEvidence, plain, marked, combined, worded}
+use Rattle.cert_check.specs.Makings.{IsMade, AreAveragesOf, AreKernelLines, IsEvidenceOf}
 use Rattle.cert_check.proofs.MadePlaces.{same_some, place_in, place_within, place_map}
 use Rattle.cert_check.proofs.MadeForms.{forms_known, positive_proper}
 use Rattle.cert_check.proofs.MadeLifts.{all_fit, marks_positive}
-use Rattle.cert_check.proofs.MadeHolds.{primary_forms, primaries_regular, proper_secondary, made_irreducible}
+use Rattle.cert_check.proofs.MadeHolds.{primary_forms, primaries_fixed, primaries_regular, proper_secondary, made_irreducible}
+use Rattle.cert_check.proofs.MadeLines.{alike, same_count, one_line}
 use Rattle.cert_check.proofs.MadeLists.{place_there, by_places, one_terms, one_polys, one_powers, one_standard}
 
 made_image : List ℕ → List (Term ℕ (List ℕ)) → Image ℕ
@@ -119,10 +125,36 @@ module _ (k : FieldOn ℕ) (gens : List (Matrix ℕ)) (tries : ℕ) (c : Certifi
       same_images : xs ≡ ys
       same_images = by_places xs ys (sym (length-map xs (λ (z : Image ℕ). z.mono)) ∙ ap length same_monomials ∙ length-map ys (λ (z : Image ℕ). z.mono)) same_image
 
+    module _ (xs ys : List (Line ℕ)) (a : All (IsMember k c) xs) (b : All (IsMember k (like d)) ys) (h : AreKernelLines k gens c xs) (g : AreKernelLines k gens (like d) ys) where
+      same_members : (map (polynomial_of k) (members_of xs) ≡ map (polynomial_of k) (members_of ys)) × (map (λ (m : Member ℕ). m.is_fixed) (members_of xs) ≡ map (λ (m : Member ℕ). m.is_fixed) (members_of ys))
+      same_members = one_kernel k n gens h.basis (degrees c) θ (primary_forms k gens c tries well made) (primaries_fixed k gens c tries well made) well.square h.standard
+          (members_of xs) (members_of ys) h.kernel
+          (subst (λ B. AreKernel k n (degrees c) θ gens B (members_of ys)) (one_standard k n θ g.basis h.basis g.standard h.standard) g.kernel)
+
+      same_line : (j : ℕ) (x y : Line ℕ) → slice_get xs j ≡ Some x → slice_get ys j ≡ Some y → x ≡ y
+      same_line j x y p q =
+          let fits = all_in (IsMember k c) xs a x (place_in xs j x p) in
+          let fits' = all_in (IsMember k (like d)) ys b y (place_in ys j y q) in
+          one_line k gens c (ones c) (primary_forms k gens c tries well made).forms secondary_forms x y fits.polynomial fits'.polynomial fits.combination fits'.combination
+          (h.lines j x p) (g.lines j y q) (alike (polynomial_of k) xs ys j x y p q same_members.0) (alike (λ (m : Member ℕ). m.is_fixed) xs ys j x y p q same_members.1)
+
+      same_lines : xs ≡ ys
+      same_lines = by_places xs ys (same_count (λ (m : Member ℕ). m.is_fixed) xs ys same_members.1) same_line
+
+    same_order : c.order ≡ d.order
+    same_order = order_unique k n (cells_of gens) c.order d.order made.order again.order
+
+    divides_other : c.characteristic ∣ c.order → d.characteristic ∣ d.order
+    divides_other h = subst (λ (N : ℕ). d.characteristic ∣ N) same_order (subst (λ (p : ℕ). p ∣ c.order) same_characteristic h)
+
+    other_divides : d.characteristic ∣ d.order → c.characteristic ∣ c.order
+    other_divides h = subst (λ (N : ℕ). c.characteristic ∣ N) (sym same_order) (subst (λ (p : ℕ). p ∣ d.order) (sym same_characteristic) h)
+
     same_evidence : (e f : EvidenceOf ℕ) → AreEvidence k c e → AreEvidence k (like d) f → IsEvidenceOf k gens c e → IsEvidenceOf k gens (like d) f → e ≡ f
     same_evidence (Averages xs) (Averages ys) a b h g = ap Averages (same_images xs ys a b h g)
-    same_evidence (Averages xs) (Members ls) a b h g = absurd g
-    same_evidence (Members ls) f a b h g = absurd h
+    same_evidence (Averages xs) (Members ls) a b h g = absurd (h.characteristic (other_divides g.characteristic))
+    same_evidence (Members ls) (Averages ys) a b h g = absurd (g.characteristic (divides_other h.characteristic))
+    same_evidence (Members ls) (Members ms) a b h g = ap Members (same_lines ls ms a b h g)
 
     same_word : (j : ℕ) (u v : List (Term ℕ (List ℕ))) → slice_get c.words j ≡ Some u → slice_get d.words j ≡ Some v → u ≡ v
     same_word j u v p q =
@@ -142,7 +174,7 @@ module _ (k : FieldOn ℕ) (gens : List (Matrix ℕ)) (tries : ℕ) (c : Certifi
       characteristic = same_characteristic i;
       names = c.names;
       matrices = (sym well.generators ∙ other.generators) i;
-      order = order_unique k n (cells_of gens) c.order d.order made.order again.order i;
+      order = same_order i;
       primaries = c.primaries;
       lifts = same_lifts i;
       powers = same_powers i;

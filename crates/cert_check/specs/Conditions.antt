@@ -11,17 +11,21 @@
 --         monomials
 --   K7    item j: secondary invariant j is not 0, homogeneous and invariant
 --   K8    averages, item 0: the characteristic does not divide the order, and the listed monomials are the standard ones in order;
---         item j: the combination of line j has the average of its monomial as value. (Evidence by a kernel meets no condition yet.)
+--         item j: the combination of line j has the average of its monomial as value. A kernel, item 0: the members of its lines are
+--         the kernel evidence over the standard monomials in order; item j: line j is moved, so without a combination, or its
+--         combination has the value of its polynomial
 --   K9    item j: secondary invariant j is no combination over the primary invariants and the others
 --   K10   item l: irreducible generator l is a secondary invariant of positive degree; the items after these: the value of word j is
 --         secondary invariant j
 --   K11   item l: irreducible generator l is no polynomial in the primary invariants and the others
 --   value_of k c x          the value of the combination x
---   MeetsAverages k gens c xs i, MeetsEvidence k gens c e i   the condition K8 at the averages xs, at the evidence e
+--   IsValue k c f x         the combination x, where there is one, has the value f
+--   MeetsAverages k gens c xs i, MeetsKernel k gens c ls i, MeetsEvidence k gens c e i   the condition K8 at the averages xs, at the
+--                           lines ls of a kernel, at the evidence e
 --   Condition, number       the conditions, and their numbers from 1 to 11
 --   Meets k gens c a i      the certificate meets the condition a at the item i
 --   Holds k gens c          it meets each condition at each item
-use Rattle.std.specs.Prelude.{◌≡◌, ◌≤◌, ◌+◌, ◌-◌, ◌++◌, ℕ, List, length}
+use Rattle.std.specs.Prelude.{◌≡◌, ◌≤◌, ◌+◌, ◌-◌, ◌++◌, ℕ, List, Option, IfSome, length}
 use Rattle.std.specs.Int.{◌∣◌}
 use Rattle.alg_core.specs.Fields.{FieldOn}
 use Rattle.alg_core.specs.Lists.{In}
@@ -44,8 +48,10 @@ use Rattle.secondary_gens.specs.Secondaries.{IsRedundant}
 use Rattle.irreducible_gens.specs.Irreducibles.{IsOfPositiveDegree, IsReducible}
 use Rattle.certificate_io.specs.Certificates.{CertificateOf, EvidenceOf, Averages, Members}
 use Rattle.certificate_io.specs.declared.evidence.Image.{Image}
+use Rattle.certificate_io.specs.declared.evidence.Line.{Line}
 use Rattle.finite_certificate.specs.declared.power.Power.{Power}
-use Rattle.cert_check.specs.Parts.{At, size, ones, polynomial, primaries, lifts, secondaries, irreducibles, words, degrees, monomials}
+use Rattle.syzygy_kernel.specs.Kernels.{AreKernel}
+use Rattle.cert_check.specs.Parts.{At, size, ones, polynomial, primaries, lifts, secondaries, irreducibles, words, degrees, monomials, members}
 use Rattle.cert_check.specs.WellFormed.{marked}
 
 -- not 0, and homogeneous
@@ -91,9 +97,17 @@ module _ (k : FieldOn ℕ) (gens : List (Matrix ℕ)) (c : CertificateOf ℕ) wh
     pub whole : i ≡ 0 → (¬ (c.characteristic ∣ c.order)) × AreStandardMonomials k (size c) (primaries k c) (monomials xs)
     pub line : (x : Image ℕ) → At xs i x → IsAverage k gens (single_vector k (0, mono x.mono)) (value_of x.comb)
 
+  abbrev pub IsValue : Vect k → Option (Comb ℕ) → Type 0
+  IsValue f x = IfSome x (λ y. value_of y ≡ f)
+
+  pub record MeetsKernel (ls : List (Line ℕ)) (i : ℕ) : Type 0 where
+    pub whole : i ≡ 0 → (B : List (List ℕ)) × AreStandardMonomials k (size c) (primaries k c) B
+        × AreKernel k (size c) (degrees c) (primaries k c) gens B (members ls)
+    pub line : (l : Line ℕ) → At ls i l → IsValue (mark_value k (size c) (primaries k c) (polynomial k l.u)) l.comb
+
   abbrev pub MeetsEvidence : EvidenceOf ℕ → ℕ → Type 0
   MeetsEvidence (Averages xs) i = MeetsAverages xs i
-  MeetsEvidence (Members ls) i = ⊥
+  MeetsEvidence (Members ls) i = MeetsKernel ls i
 
   abbrev pub K8 : ℕ → Type 0
   K8 i = MeetsEvidence c.evidence i

@@ -9,14 +9,18 @@
 --   degrees c                   the degrees of the primary invariants
 --   secondary_degrees, irreducible_degrees c   those of the secondary invariants, of the irreducible generators
 --   monomials xs                the monomials of the lines of the averages, by their exponents
-use Rattle.std.specs.Prelude.{◌≡◌, ◌+◌, ℕ, List, length, map, replicate, slice_get, Some}
+--   members ls                  the members of the kernel of its lines: each has the polynomial of its line, and is named fixed
+--                               exactly where the line has a combination
+use Rattle.std.specs.Prelude.{◌≡◌, ◌+◌, ℕ, List, is_some, length, map, replicate, slice_get, Some}
 use Rattle.alg_core.specs.Fields.{FieldOn}
 use Rattle.alg_core.specs.Spaces.{entries}
 use Rattle.alg_core.specs.Vectors.{Vect, vec}
 use Rattle.alg_core.specs.declared.term.Term.{Term}
 use Rattle.certificate_io.specs.Certificates.{CertificateOf}
 use Rattle.certificate_io.specs.declared.evidence.Image.{Image}
+use Rattle.certificate_io.specs.declared.evidence.Line.{Line}
 use Rattle.secondary_gens.specs.Forms.{degrees_of}
+use Rattle.syzygy_kernel.specs.declared.member.Member.{Member}
 
 abbrev pub At : {A : Type 0} → List A → ℕ → A → Type 0
 At xs i x = (j : ℕ) × (i ≡ j + 1) × (slice_get xs j ≡ Some x)
@@ -38,6 +42,9 @@ irreducible_degrees c = degrees_of c.irreducibles
 
 abbrev pub monomials : List (Image ℕ) → List (List ℕ)
 monomials xs = map (λ x. x.mono) xs
+
+abbrev pub members : List (Line ℕ) → List (Member ℕ)
+members ls = map (λ l. record { u = l.u; is_fixed = is_some l.comb }) ls
 
 module _ (k : FieldOn ℕ) where
   abbrev pub polynomial : List (Term ℕ (List ℕ)) → Vect k

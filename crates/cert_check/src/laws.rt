@@ -9,7 +9,8 @@ ghost use Rattle.cert_check.specs.Properties.{HasProperties};
 ghost use Rattle.cert_check.specs.Makings.{IsMade};
 
 /// A certificate that meets each condition has the properties, whoever made it: every invariant is a
-/// combination since by its evidence the averages of the standard monomials are.
+/// combination since by its evidence the averages of the standard monomials are, or the values of the
+/// fixed members of a kernel, in which case the characteristic may divide the order of the group.
 /// (Derksen and Kemper, Computational Invariant Theory, sections 2.2 and 3.5.)
 pub fn certificates_have_properties()
     ensures properties { (k : FieldOn ℕ) (gens : List (Matrix ℕ)) (c : CertificateOf ℕ) → IsWellFormed k c gens → Holds k gens c

@@ -25,6 +25,7 @@ pub mod WritableForms
 pub mod FoundSteps
 pub mod PrintableParts
 pub mod WholeCertificates
+pub mod SameKernels
 pub mod SameCells
 pub mod RisingLists
 pub mod RingCertificates

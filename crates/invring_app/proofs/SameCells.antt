@@ -13,10 +13,12 @@ use Rattle.primary_search.specs.Walks.{ArePlaces, FirstPrimaries}
 use Rattle.secondary_gens.specs.Secondaries.{AreBases, AreSecondaries}
 use Rattle.certificate_io.specs.Certificates.{CertificateOf, EvidenceOf, Averages, Members, MatrixOf, matrix_of}
 use Rattle.certificate_io.specs.declared.evidence.Image.{Image}
-use Rattle.cert_check.specs.Makings.{AreAveragesOf, IsEvidenceOf, IsMade}
-use Rattle.cert_check.specs.Parts.{size as width, primaries, secondaries}
+use Rattle.certificate_io.specs.declared.evidence.Line.{Line}
+use Rattle.cert_check.specs.Makings.{AreAveragesOf, AreKernelLines, IsEvidenceOf, IsMade}
+use Rattle.cert_check.specs.Parts.{size as width, primaries, secondaries, degrees, members}
 use Rattle.cert_check.specs.WellFormed.{IsWellFormed, plain}
 use Rattle.invring_app.proofs.EndingLaws.{Shape, shape, same-form, same-basis}
+use Rattle.invring_app.proofs.SameKernels.{same-count, same-kernel}
 
 abbrev first-rows : List Shape → ℕ
 first-rows [] = 0
@@ -109,9 +111,18 @@ module _ (ms os : List (Matrix ℕ)) (e : map shape ms ≡ map shape os) where
       images = λ i x p. let m = a.images i x p in record { average = m.average; is = same-average k _ _ m.is; printed = m.printed };
     }
 
+    kernel-by : (ls : List (Line ℕ)) → AreKernelLines k ms c ls → AreKernelLines k os c ls
+    kernel-by ls a = record {
+      characteristic = a.characteristic;
+      basis = a.basis;
+      standard = a.standard;
+      kernel = same-kernel ms os e k (width c) (degrees c) (primaries k c) a.basis (members ls) a.kernel;
+      lines = a.lines;
+    }
+
     evidence-by : (v : EvidenceOf ℕ) → IsEvidenceOf k ms c v → IsEvidenceOf k os c v
     evidence-by (Averages xs) a = averages-by xs a
-    evidence-by (Members ls) a = absurd a
+    evidence-by (Members ls) a = kernel-by ls a
 
     pub made-by : (tries : ℕ) → IsMade k ms c tries → IsMade k os c tries
     made-by tries a = record {
@@ -134,7 +145,7 @@ module _ (ms os : List (Matrix ℕ)) (e : map shape ms ≡ map shape os) where
     formed-by a = record {
       field = a.field;
       generators = listed-shape os ∙ ap (map with-shape) (sym e) ∙ sym (listed-shape ms) ∙ a.generators;
-      some = let long : length ms ≡ length os = sym (length-map ms shape) ∙ ap length e ∙ length-map os shape in subst (λ (n : ℕ). 0 < n) long a.some;
+      some = subst (λ (n : ℕ). 0 < n) (same-count ms os e) a.some;
       square = same-squares k (width c) ms os e a.square;
       variables = a.variables;
       primaries = a.primaries;
