@@ -1,6 +1,5 @@
 -- Matrices with the same cells: what is made from the ones is made from the others.
 use Rattle.std.proofs.Common.{◌≡◌, ◌∙◌, ℕ, zero, suc, ◌*◌, ◌<◌, List, [], ◌∷◌, length, map, All, refl, sym, ap, subst}
-use Rattle.std.proofs.lemmas.List.{length-map}
 use Rattle.std.proofs.lemmas.List.Elements.{All-nil, All-cons, All-head, All-tail}
 use Rattle.alg_core.specs.Fields.{FieldOn, Has}
 use Rattle.alg_core.specs.Spaces.{SpaceOver}

@@ -1,6 +1,6 @@
 -- Matrices with the same cells have the same graph of differences, and the same kernel evidence.
-use Rattle.std.proofs.Common.{◌≡◌, ◌∙◌, ◌-◌, ◌*◌, ◌<◌, ℕ, suc, List, [], ◌∷◌, length, map, refl, sym, ap, subst}
-use Rattle.std.specs.Prelude.{◌↔◌, IsTrue, Some, slice_get, nat_lt, if◌then◌else◌}
+use Rattle.std.proofs.Common.{◌≡◌, ◌∙◌, ◌-◌, ◌*◌, ◌<◌, ℕ, suc, List, [], ◌∷◌, length, map, sym, ap, subst}
+use Rattle.std.specs.Prelude.{◌↔◌, IsTrue, slice_get, nat_lt, if◌then◌else◌}
 use Rattle.std.proofs.lemmas.List.{length-map}
 use Rattle.alg_core.specs.Fields.{FieldOn, scalars}
 use Rattle.alg_core.specs.FreeModules.{extend}
