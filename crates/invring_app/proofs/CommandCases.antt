@@ -9,7 +9,7 @@ use Rattle.alg_core.specs.declared.limits.Limits.{Limits}
 use Rattle.invring_app.specs.declared.commands.Command.{Command}
 use Rattle.invring_app.specs.declared.commands.Command.TheVariants.{Basis, Order, Primary, Ring}
 use Rattle.invring_app.specs.Commands.{◌>>=◌, command_name, numbers_of, IsNumberOf, command_of, EndsAs}
-use Rattle.invring_app.specs.Endings.{Ending, StopsAt, Answers, Modular, AreAlike}
+use Rattle.invring_app.specs.Endings.{Ending, StopsAt, Answers, AreAlike}
 use Rattle.invring_app.specs.ErrorLines.{bound_pieces}
 use Rattle.invring_app.specs.Inputs.{Input, NoInput, OfScript}
 use Rattle.invring_app.proofs.EndingLaws.{basis-text-one, order-one, order-over}
@@ -88,17 +88,11 @@ command_of-is Ring o e range = ap (command_of (codes "ring")) (listed-none o e)
 pub ending-one : (c : Command) (l : Limits) (i : Input) (e f : Ending) → EndsAs c l i e → EndsAs c l i f → AreAlike e f
 ending-one (Basis d) l NoInput e f h g = absurd h
 ending-one (Basis d) l (OfScript q) (StopsAt x) (StopsAt y) h g = ap bound_pieces (h.0 ∙ sym g.0)
-ending-one (Basis d) l (OfScript q) (StopsAt x) Modular h g = absurd g
-ending-one (Basis d) l (OfScript q) (Answers text) Modular h g = absurd g
-ending-one (Basis d) l (OfScript q) Modular f h g = absurd h
 ending-one (Basis d) l (OfScript q) (StopsAt x) (Answers text) h g = let over = h.1 in let few = g.0 in omega arith
 ending-one (Basis d) l (OfScript q) (Answers text) (StopsAt y) h g = let over = g.1 in let few = h.0 in omega arith
 ending-one (Basis d) l (OfScript q) (Answers text) (Answers other) h g = basis-text-one q d text other h.1 g.1
 ending-one Order l NoInput e f h g = absurd h
 ending-one Order l (OfScript q) (StopsAt x) (StopsAt y) h g = ap bound_pieces (h.0 ∙ sym g.0)
-ending-one Order l (OfScript q) (StopsAt x) Modular h g = absurd g
-ending-one Order l (OfScript q) (Answers text) Modular h g = absurd g
-ending-one Order l (OfScript q) Modular f h g = absurd h
 ending-one Order l (OfScript q) (StopsAt x) (Answers text) h g = let over = order-over q g.0 l.max_order g.1 h.1 in let few = g.2 in omega arith
 ending-one Order l (OfScript q) (Answers text) (StopsAt y) h g = let over = order-over q h.0 l.max_order h.1 g.1 in let few = h.2 in omega arith
 ending-one Order l (OfScript q) (Answers text) (Answers other) h g = h.3 ∙ ap (λ (n : ℕ). decimal n ++ 10 ∷ []) (order-one q h.0 g.0 h.1 g.1) ∙ sym g.3

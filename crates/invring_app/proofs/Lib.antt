@@ -29,7 +29,13 @@ pub mod SameKernels
 pub mod SameCells
 pub mod RisingLists
 pub mod RingCertificates
+pub mod PrimaryDegrees
+pub mod KernelOnce
+pub mod SameGraphs
 pub mod RingStages
 pub mod RingEnds
 pub mod RingWritten
 pub mod RingSteps
+pub mod NarrowLaws
+pub mod FixedValues
+pub mod FixedSteps

@@ -15,7 +15,7 @@ use Rattle.invring_app.specs.Commands.{reads}
 use Rattle.invring_app.specs.Words.{IsRequest}
 use Rattle.invring_app.proofs.CommandLaws.{IsRequest-unique}
 use Rattle.invring_app.specs.Answers.{Ends, IsAnswer, IsFault}
-use Rattle.invring_app.specs.Endings.{Ending, StopsAt, Answers, Modular}
+use Rattle.invring_app.specs.Endings.{Ending, StopsAt, Answers}
 use Rattle.invring_app.specs.Inputs.{Input, NoInput, OfScript, Refusal, NoText, Faulty, most_bytes, ReadsAs, IsRefused, Takes, IsLeft}
 use Rattle.invring_app.specs.Outcomes.{status_after, status_of_fault, EndsAt, Writing, Completes}
 
@@ -89,11 +89,6 @@ module _ (r : Request) (left left' : Option (List ℕ)) (f f' : ℕ) where
     pub fault-writing : (e : Fault) (bytes : List ℕ) → Takes (reads r.command) left bytes left' → IsFault r.command r.limits bytes e → Writing r (status_of_fault e) left left' taken taken g g
     fault-writing (faults.Syntax p) bytes takes is = record { ended = λ x. absurd x; cut = λ is. absurd cc; fault = λ is. absurd cc }
     fault-writing (faults.Input i) bytes takes is = record { ended = λ x. absurd x; cut = λ is. absurd cc; fault = λ is. absurd cc }
-    fault-writing faults.Modular bytes takes is = record {
-      ended = λ x. (Modular, refl, ending-at bytes Modular takes is, took-nothing taken);
-      cut = λ is. absurd cc;
-      fault = λ is. absurd cc;
-    }
     fault-writing (faults.Bound b) bytes takes is = record {
       ended = λ x. (StopsAt b, refl, ending-at bytes (StopsAt b) takes is, took-nothing taken);
       cut = λ is. absurd cc;
@@ -104,7 +99,6 @@ module _ (r : Request) (left left' : Option (List ℕ)) (f f' : ℕ) where
   pub fault-complete : (e : Fault) (bytes : List ℕ) (g g' : ℕ) → Takes (reads r.command) left bytes left' → IsFault r.command r.limits bytes e → Completes r (status_of_fault e) left f f' g g'
   fault-complete (faults.Syntax p) bytes g g' takes is = λ i left-is kept kept'. absurd (input-not-refused (reads r.command) bytes i (NoText p) (left-read (reads r.command) left left' bytes i takes left-is) is)
   fault-complete (faults.Input x) bytes g g' takes is = λ i left-is kept kept'. absurd (input-not-refused (reads r.command) bytes i (Faulty x) (left-read (reads r.command) left left' bytes i takes left-is) is)
-  fault-complete faults.Modular bytes g g' takes is = λ i left-is kept kept'. inl (Modular, refl, ending-left bytes Modular i takes is left-is)
   fault-complete (faults.Bound b) bytes g g' takes is = λ i left-is kept kept'. inl (StopsAt b, refl, ending-left bytes (StopsAt b) i takes is left-is)
   fault-complete faults.Memory bytes g g' takes is = λ i left-is kept kept'. inr refl
 

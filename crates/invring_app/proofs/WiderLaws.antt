@@ -41,13 +41,13 @@ module _ {E : Type 0} (S : SpaceOver E) where
   unfolding key
   same_key w t u h = ap₂ {C = Key} (λ i m. (i, m)) h.position h.same
 
-  one_entry : (w : ℕ) (t u : Term E (List ℕ)) → IsWiderTerm w t u → vec S.field (es (u ∷ [])) ≡ vec S.field (es (t ∷ []))
+  pub one_entry : (w : ℕ) (t u : Term E (List ℕ)) → IsWiderTerm w t u → vec S.field (es (u ∷ [])) ≡ vec S.field (es (t ∷ []))
   one_entry w t u h =
       vec_single S.field (entry (λ m. m) u)
       ∙ ap₂ (λ c x. (vectors S.field).◌·◌ (scalar S.field c) (single (scalars S.field) key_same x)) h.coefficient (same_key w t u h)
       ∙ sym (vec_single S.field (entry (λ m. m) t))
 
-  more : (xs : List (Term E (List ℕ))) (x : Term E (List ℕ)) → vec S.field (es (xs ++ x ∷ [])) ≡ plus S.field (vec S.field (es xs)) (vec S.field (es (x ∷ [])))
+  pub more : (xs : List (Term E (List ℕ))) (x : Term E (List ℕ)) → vec S.field (es (xs ++ x ∷ [])) ≡ plus S.field (vec S.field (es xs)) (vec S.field (es (x ∷ [])))
   more xs x = ap (vec S.field) (map-append (entry (λ m. m)) xs (x ∷ [])) ∙ vec_append S.field (es xs) (es (x ∷ []))
 
   module _ (n : ℕ) (ds : List ℕ) (space : IsMarkSpace S n ds) where

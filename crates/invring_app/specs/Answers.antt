@@ -11,7 +11,7 @@ use Rattle.invring_app.specs.declared.fault.Fault.{Fault}
 use Rattle.invring_app.specs.declared.fault.Fault.TheVariants as faults
 use Rattle.invring_app.specs.declared.words.Request.{Request}
 use Rattle.invring_app.specs.Commands.{reads, EndsAs}
-use Rattle.invring_app.specs.Endings.{Ending, StopsAt, Modular}
+use Rattle.invring_app.specs.Endings.{Ending, StopsAt}
 use Rattle.invring_app.specs.Inputs as inputs
 
 abbrev pub Ends : Request → inputs.Input → Ending → Type 0
@@ -23,6 +23,5 @@ IsAnswer c l bytes e = (i : inputs.Input) × inputs.ReadsAs (reads c) bytes i ×
 abbrev pub IsFault : Command → Limits → List ℕ → Fault → Type 0
 IsFault c l bytes (faults.Syntax p) = inputs.IsRefused (reads c) bytes (inputs.NoText p)
 IsFault c l bytes (faults.Input f) = inputs.IsRefused (reads c) bytes (inputs.Faulty f)
-IsFault c l bytes faults.Modular = IsAnswer c l bytes Modular
 IsFault c l bytes (faults.Bound f) = IsAnswer c l bytes (StopsAt f)
 IsFault c l bytes faults.Memory = Unit {0}

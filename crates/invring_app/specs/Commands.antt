@@ -22,7 +22,7 @@ use Rattle.invring_app.specs.declared.reading.Kind.TheVariants.{Script}
 use Rattle.invring_app.specs.Commands.Bases.{IsBasisBound, IsBasisAnswer}
 use Rattle.invring_app.specs.Commands.Orders.{IsOrderBound, IsOrderAnswer}
 use Rattle.invring_app.specs.Commands.Primaries.{IsPrimaryBound, IsPrimaryAnswer}
-use Rattle.invring_app.specs.Commands.Rings.{EndsRing}
+use Rattle.invring_app.specs.Commands.Rings.{IsRingBound, IsRingAnswer}
 use Rattle.invring_app.specs.Endings.{Ending, AtProblem}
 use Rattle.invring_app.specs.Inputs.{Input}
 
@@ -67,4 +67,4 @@ abbrev pub EndsAs : Command → Limits → Input → Ending → Type 0
 EndsAs (Basis d) l i e = AtProblem (IsBasisBound d l) (IsBasisAnswer d l) i e
 EndsAs Order l i e = AtProblem (IsOrderBound l) (IsOrderAnswer l) i e
 EndsAs Primary l i e = AtProblem (IsPrimaryBound l) (IsPrimaryAnswer l) i e
-EndsAs Ring l i e = EndsRing l i e
+EndsAs Ring l i e = AtProblem (IsRingBound l) (IsRingAnswer l) i e

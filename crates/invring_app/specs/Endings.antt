@@ -1,9 +1,7 @@
 -- How a run ends at what it read.
 --
---   Ending               it stops at a bound; it answers a text; or it does neither since the characteristic divides the order of the
---                        group, for which `ring` has no answer yet
---   AreAlike e e'        the same text, or bounds whose kind and numbers are the same: the pieces of their lines are; or both are for
---                        want of an answer
+--   Ending               it stops at a bound, or it answers a text
+--   AreAlike e e'        the same text, or bounds whose kind and numbers are the same: the pieces of their lines are
 --   AtProblem P Q i e    the input i is the problem of a script, and the ending e is a bound of which P holds there, or a text of
 --                        which Q does
 use Rattle.std.specs.Prelude.{◌≡◌, ℕ, List}
@@ -15,21 +13,14 @@ use Rattle.invring_app.specs.Inputs.{Input, NoInput, OfScript}
 pub data Ending : Type 0 where
   StopsAt : BoundFault → Ending
   Answers : List ℕ → Ending
-  Modular : Ending
 
 abbrev pub AreAlike : Ending → Ending → Type 0
 AreAlike (StopsAt f) (StopsAt g) = bound_pieces f ≡ bound_pieces g
 AreAlike (StopsAt f) (Answers text) = ⊥
-AreAlike (StopsAt f) Modular = ⊥
 AreAlike (Answers text) (StopsAt f) = ⊥
 AreAlike (Answers text) (Answers other) = text ≡ other
-AreAlike (Answers text) Modular = ⊥
-AreAlike Modular (StopsAt f) = ⊥
-AreAlike Modular (Answers text) = ⊥
-AreAlike Modular Modular = Unit {0}
 
 abbrev pub AtProblem : (Problem → BoundFault → Type 0) → (Problem → List ℕ → Type 0) → Input → Ending → Type 0
 AtProblem stops answers NoInput e = ⊥
 AtProblem stops answers (OfScript q) (StopsAt f) = stops q f
 AtProblem stops answers (OfScript q) (Answers text) = answers q text
-AtProblem stops answers (OfScript q) Modular = ⊥

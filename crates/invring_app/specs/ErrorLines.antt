@@ -18,7 +18,7 @@ use Rattle.invring_app.specs.declared.error_line.Piece.TheVariants.{Text, Number
 use Rattle.invring_app.specs.declared.status.BoundFault.{BoundFault}
 use Rattle.invring_app.specs.declared.status.BoundFault.TheVariants.{TermBound, GroupBound, NoPrimary, BasisBound, RankBound, TextBound}
 use Rattle.invring_app.specs.declared.status.Status.{Status}
-use Rattle.invring_app.specs.declared.status.Status.TheVariants.{Done, Usage, Syntax, Input, Modular, Bound, ReadFault, WriteFault, Memory}
+use Rattle.invring_app.specs.declared.status.Status.TheVariants.{Done, Usage, Syntax, Input, Bound, ReadFault, WriteFault, Memory}
 
 abbrev pub piece_text : Piece → List ℕ
 piece_text (Text text) = text.now
@@ -61,7 +61,6 @@ status_line Done = []
 status_line Usage = line_of (codes "usage" ∷ [])
 status_line (Syntax place) = line_of (place_pieces place)
 status_line (Input fault) = line_of (input_pieces fault)
-status_line Modular = line_of (codes "input modular" ∷ [])
 status_line (Bound fault) = line_of (bound_pieces fault)
 status_line ReadFault = line_of (codes "read" ∷ [])
 status_line WriteFault = line_of (codes "write" ∷ [])

@@ -1,6 +1,7 @@
 -- Primary invariants that a search found, and the polynomials as a free module over them.
 --
 --   IsPlain S                   S is the space of the polynomials in variables of degree 1, by the degree reverse lexicographic order
+--   IsMarkedBeside S M n ds     M is the space of the polynomials in the n variables of the space S and marks of the degrees ds
 --   AreFound S cap θ            θ are the terms of homogeneous polynomials of positive degrees over the plain space S, each a
 --                               nonzerodivisor modulo those before it; each variable has a power in their ideal, which has no element
 --                               above the cap
@@ -27,6 +28,10 @@ pub record IsPlain {E : Type 0} (S : SpaceOver E) : Type 0 where
   pub order : S.order ≡ dp_order S.weights
   pub weights : S.weights ≡ replicate (length S.weights) 1
   pub shifts : S.shifts ≡ 0 ∷ []
+
+pub record IsMarkedBeside {E : Type 0} (S M : SpaceOver E) (n : ℕ) (ds : List ℕ) : Type 0 where
+  pub is : M ≡ marked_space S.field (length S.weights) ds
+  pub variables : n ≡ length S.weights
 
 pub record AreFound {E : Type 0} (S : SpaceOver E) (cap : ℕ) (θ : List (List (Term E (List ℕ)))) : Type 0 where
   pub plain : IsPlain S

@@ -16,4 +16,5 @@ pub mod AveragedOver
 pub mod WrittenParts
 pub mod AveragedGroups
 pub mod RingFaults
+pub mod KernelValues
 pub mod Headline

@@ -25,7 +25,7 @@ use Rattle.inv_outside.specs.declared.whole.ReadFault.TheVariants as reading
 use Rattle.invring_app.specs.declared.fault.Fault.{Fault}
 use Rattle.invring_app.specs.declared.fault.Fault.TheVariants as faults
 use Rattle.invring_app.specs.declared.status.Status.{Status}
-use Rattle.invring_app.specs.declared.status.Status.TheVariants.{Done, Usage, Syntax, Input, Modular, Bound, ReadFault, WriteFault, Memory}
+use Rattle.invring_app.specs.declared.status.Status.TheVariants.{Done, Usage, Syntax, Input, Bound, ReadFault, WriteFault, Memory}
 use Rattle.invring_app.specs.declared.words.Request.{Request}
 use Rattle.invring_app.specs.declared.commands.Command.{Command}
 use Rattle.invring_app.specs.Answers.{Ends}
@@ -40,7 +40,6 @@ exit_code Done = 0
 exit_code Usage = 2
 exit_code (Syntax place) = 3
 exit_code (Input fault) = 4
-exit_code Modular = 4
 exit_code (Bound fault) = 5
 exit_code ReadFault = 6
 exit_code WriteFault = 7
@@ -53,12 +52,10 @@ refused_with (inputs.Faulty f) = Input f
 abbrev pub status_of : endings.Ending → Status
 status_of (endings.StopsAt f) = Bound f
 status_of (endings.Answers text) = Done
-status_of endings.Modular = Modular
 
 abbrev pub output_of : endings.Ending → List ℕ
 output_of (endings.StopsAt f) = []
 output_of (endings.Answers text) = text
-output_of endings.Modular = []
 
 abbrev pub status_after : {T : Type 0} → Result T Status → Status
 status_after (Ok done) = Done
@@ -71,7 +68,6 @@ status_of_read reading.Memory = Memory
 abbrev pub status_of_fault : Fault → Status
 status_of_fault (faults.Syntax p) = Syntax p
 status_of_fault (faults.Input f) = Input f
-status_of_fault faults.Modular = Modular
 status_of_fault (faults.Bound f) = Bound f
 status_of_fault faults.Memory = Memory
 
@@ -80,7 +76,6 @@ IsEnd Done = Unit {0}
 IsEnd Usage = ⊥
 IsEnd (Syntax place) = ⊥
 IsEnd (Input fault) = ⊥
-IsEnd Modular = Unit {0}
 IsEnd (Bound fault) = Unit {0}
 IsEnd ReadFault = ⊥
 IsEnd WriteFault = ⊥
@@ -91,7 +86,6 @@ Writes Done = Unit {0}
 Writes Usage = ⊥
 Writes (Syntax place) = ⊥
 Writes (Input fault) = ⊥
-Writes Modular = ⊥
 Writes (Bound fault) = ⊥
 Writes ReadFault = ⊥
 Writes WriteFault = Unit {0}

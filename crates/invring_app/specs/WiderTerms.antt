@@ -1,9 +1,10 @@
 -- Polynomials in some variables as polynomials in more.
 --
 --   IsWiderTerm w t u      u is t as a term in w variables
+--   AreNarrow k n ts       the terms ts have values of the field k, position 0 and n exponents or more, none past the n-th other than 0
 --   IsUnmarked k n ts      the terms ts have values of the field k, position 0 and n exponents
-use Rattle.std.specs.Prelude.{◌≡◌, ℕ, List, All, length}
-use Rattle.alg_core.specs.Fields.{FieldOn}
+use Rattle.std.specs.Prelude.{◌≡◌, ◌≤◌, ℕ, List, All, length}
+use Rattle.alg_core.specs.Fields.{FieldOn, Has}
 use Rattle.alg_core.specs.Monomials.{mono}
 use Rattle.alg_core.specs.Spaces.{entries}
 use Rattle.alg_core.specs.declared.term.Term.{Term}
@@ -17,4 +18,10 @@ pub record IsWiderTerm {E : Type 0} (w : ℕ) (t u : Term E (List ℕ)) : Type 0
 
 pub record IsUnmarked {E : Type 0} (k : FieldOn E) (n : ℕ) (ts : List (Term E (List ℕ))) : Type 0 where
   pub variables : HasVariables k (λ m. m) n ts
+  pub position : All (λ e. e.0.0 ≡ 0) (entries (λ m. m) ts)
+
+pub record AreNarrow {E : Type 0} (k : FieldOn E) (n : ℕ) (ts : List (Term E (List ℕ))) : Type 0 where
+  pub values : All (λ e. Has k e.1) (entries (λ m. m) ts)
+  pub long : All (λ e. n ≤ length e.0.1) (entries (λ m. m) ts)
+  pub unmarked : All (λ e. length (mono e.0.1).0 ≤ n) (entries (λ m. m) ts)
   pub position : All (λ e. e.0.0 ≡ 0) (entries (λ m. m) ts)

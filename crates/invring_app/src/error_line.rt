@@ -156,7 +156,6 @@ fn line_pieces<'a>(status: &'a Status) -> [Piece<'a>; 4]
         Status::Usage => [Piece::Text(b"usage"), none, none, none],
         Status::Syntax(place) => place_line(*place),
         Status::Input(fault) => input_line(fault),
-        Status::Modular => [Piece::Text(b"input modular"), none, none, none],
         Status::Bound(fault) => bound_line(fault),
         Status::ReadFault => [Piece::Text(b"read"), none, none, none],
         Status::WriteFault => [Piece::Text(b"write"), none, none, none],

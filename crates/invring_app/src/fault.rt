@@ -14,8 +14,6 @@ pub enum Fault {
     Syntax(Place),
     /// They are too many, or a script with a faulty value.
     Input(InputFault),
-    /// The characteristic divides the order of the group, for which there is no certificate yet.
-    Modular,
     Bound(BoundFault),
     Memory,
 }

@@ -48,8 +48,6 @@ pub enum Status {
     Syntax(Place),
     /// They are too many, or a script with a faulty value.
     Input(InputFault),
-    /// The characteristic divides the order of the group, for which `ring` has no answer yet.
-    Modular,
     Bound(BoundFault),
     /// The source failed.
     ReadFault,
@@ -72,7 +70,6 @@ impl Status {
             Status::Usage => 2,
             Status::Syntax(_) => 3,
             Status::Input(_) => 4,
-            Status::Modular => 4,
             Status::Bound(_) => 5,
             Status::ReadFault => 6,
             Status::WriteFault => 7,
@@ -115,7 +112,6 @@ impl From<Fault> for Status {
         match fault {
             Fault::Syntax(place) => Status::Syntax(place),
             Fault::Input(fault) => Status::Input(fault),
-            Fault::Modular => Status::Modular,
             Fault::Bound(fault) => Status::Bound(fault),
             Fault::Memory => Status::Memory,
         }

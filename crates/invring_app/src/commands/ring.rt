@@ -11,10 +11,12 @@ ghost use Rattle.invring_app.specs.Answers.{IsAnswer, IsFault};
 ghost use Rattle.invring_app.specs.Endings.{Answers};
 
 mod averages;
+mod kernels;
 mod marks;
 mod over;
 mod present;
 mod secondaries;
+mod unmarked;
 mod whole;
 mod written;
 
@@ -43,9 +45,9 @@ fn text_within(alloc: Global, cert: &Certificate<u16>, max_text: u64) -> Result<
 }
 
 /// The text of the certificate of a script. The first fault is answered in the order length, syntax,
-/// values, and then of the group, the search, the number of standard monomials, the degrees of their
-/// averages, and the length of the text. `Modular` comes exactly where the group is within its limit and
-/// the characteristic divides its order. `Memory` may come anywhere.
+/// values, and then of the group, the search, the number of standard monomials, the graph of the
+/// differences where the characteristic divides the order of the group, the degrees of the averages or of
+/// the values of the fixed members, and the length of the text. `Memory` may come anywhere.
 pub fn ring_text(alloc: Global, script: &[u8], limits: &Limits) -> Result<Vec<u8>, Fault>
     requires limits { AreLimits limits.now }
     ensures certified { IfOk result (λ text. (q : Problem) × IsProblemText script.now q × IsCertified q limits.now.tries text.items) }
