@@ -24,7 +24,7 @@ pub mod CopiedForms
 pub mod WritableForms
 pub mod FoundSteps
 pub mod PrintableParts
-pub mod WholeCertificates
+pub mod RankedSteps
 pub mod SameKernels
 pub mod SameCells
 pub mod RisingLists
@@ -39,3 +39,6 @@ pub mod RingSteps
 pub mod NarrowLaws
 pub mod FixedValues
 pub mod FixedSteps
+pub mod KernelSteps
+pub mod WholeCertificates
+pub mod EvidenceSteps

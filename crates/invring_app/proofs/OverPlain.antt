@@ -26,7 +26,7 @@ use Rattle.primary_module.specs.PrimaryModules.{Primaries, StandsOver}
 use Rattle.secondary_gens.specs.Forms.{degree_of, degrees_of, IsSmallForm}
 use Rattle.secondary_gens.proofs.FormDegrees.{are_forms, positive_small, all_positive}
 use Rattle.cert_check.proofs.MadeLifts.{is_mark_space, marks_positive}
-use Rattle.invring_app.specs.FoundPrimaries.{IsPlain, AreFound, AreFoundOver, IsOver}
+use Rattle.invring_app.specs.FoundPrimaries.{IsPlain, AreFound, AreFoundOver, IsOver, IsFreeOver}
 use Rattle.invring_app.specs.WiderTerms.{IsUnmarked}
 
 abbrev Terms : Type 0
@@ -132,6 +132,14 @@ module _ (S : SpaceOver ℕ) (cap : ℕ) (θ : List Terms) (found : AreFound S c
 
       pub bound_is : (r : ℕ) → IsOverRank T.field m (vectors_of T (λ m. m) ps) r → IsOverRank S.field (length S.weights) (vectors_of S (λ m. m) θ) r
       bound_is r h = subst (λ x. IsOverRank S.field n x r) equal (down (λ U i ws. IsOverRank U.field i (vectors_of U (λ m. m) ps) r) h)
+
+      pub free_is : (P : Primaries ℕ) → StandsOver T m es P → P.theta ≡ ps → IsFreeOver S T m es θ P
+      free_is P stands theta = record {
+        beside = record { is = is ∙ ap (marked_space S.field (length S.weights)) (sym marks_are); variables = variables_are };
+        marks = marks_are;
+        stands = stands;
+        same = ap (vectors_of S (λ m. m)) theta ∙ equal;
+      }
 
       pub over_is : (P : Primaries ℕ) (pws : List (Power ℕ)) → StandsOver T m es P → P.theta ≡ ps → All (λ a. total a < length P.monomials) P.monomials → length P.monomials ≤ 4096
           → All (λ p. IsPoly T (λ m. m) p.form × HasForm T p) pws → AreLeastPowers T.field m (vectors_of T (λ m. m) ps) (powers_of T pws) → IsOver S θ P.monomials P.lifts pws

@@ -48,15 +48,14 @@ module _ {E : Type 0} (S : SpaceOver E) where
       let p = (small i d l).polynomial in
       complete _ (is_polynomial S (λ m. m) _ p) (vec_in_variables S (entries (λ m. m) _) p.fits) (fixed i d l)
 
-  pub writable : (gens : List (Matrix E)) (θ : List Terms) (B : List (List ℕ)) (fs T : List Terms) → All (IsPositiveForm S) θ → All (IsSmallForm S) fs → All (IsSmallForm S) T → length B ≡ length fs
+  pub writable : (gens : List (Matrix E)) (θ fs T : List Terms) → All (IsPositiveForm S) θ → All (IsSmallForm S) fs → All (IsSmallForm S) T
       → All (λ f. Invariant S.field gens (vector_of S (λ m. m) f)) fs → ((i j : ℕ) → i ≤ j → j < length (degrees_of T) → height (degrees_of T) i ≤ height (degrees_of T) j)
-      → IsComplete S.field (length S.weights) gens (vectors_of S (λ m. m) θ) (vectors_of S (λ m. m) T) → AreWritable S θ B fs T
-  writable gens θ B fs T positive forms small same fixed rise complete = record {
+      → IsComplete S.field (length S.weights) gens (vectors_of S (λ m. m) θ) (vectors_of S (λ m. m) T) → AreWritable S θ fs T
+  writable gens θ fs T positive forms small fixed rise complete = record {
     primaries = positive;
     forms = forms;
     secondaries = small;
     rise = rise;
-    same = same;
     over = combined gens θ T fs complete forms fixed;
   }
 

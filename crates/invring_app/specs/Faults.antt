@@ -5,6 +5,7 @@
 --   fault_of_group e    the bound on the elements of the group, or want of memory
 --   fault_of_search e   the bound that the search for primary invariants met, or want of memory
 --   fault_of_rank e     the bound on the number of standard monomials, or want of memory
+--   fault_of_basis e    the element above the cap, or want of memory
 use Rattle.std.specs.Prelude.{ℕ}
 use Rattle.alg_core.specs.declared.place.Place.TheVariants.{Byte}
 use Rattle.finvar_text.specs.declared.fault.ScriptFault.{ScriptFault}
@@ -13,6 +14,8 @@ use Rattle.invariant_space.specs.declared.fault.SpaceFault.{SpaceFault}
 use Rattle.invariant_space.specs.declared.fault.SpaceFault.TheVariants as spaces
 use Rattle.matrix_group.specs.declared.fault.GroupFault.{GroupFault}
 use Rattle.matrix_group.specs.declared.fault.GroupFault.TheVariants as groups
+use Rattle.module_groebner.specs.declared.bound.BasisFault.{BasisFault}
+use Rattle.module_groebner.specs.declared.bound.BasisFault.TheVariants as bases
 use Rattle.primary_search.specs.declared.fault.SearchFault.{SearchFault}
 use Rattle.primary_search.specs.declared.fault.SearchFault.TheVariants as searches
 use Rattle.primary_module.specs.declared.fault.RankFault.{RankFault}
@@ -43,3 +46,7 @@ fault_of_search searches.Memory = Memory
 abbrev pub fault_of_rank : RankFault → Fault
 fault_of_rank (ranks.RankBound counted) = Bound (RankBound counted)
 fault_of_rank ranks.Memory = Memory
+
+abbrev pub fault_of_basis : BasisFault ℕ → Fault
+fault_of_basis (bases.Above b) = Bound (BasisBound b.which b.vector b.degree)
+fault_of_basis bases.Memory = Memory

@@ -8,6 +8,8 @@
 --   AreFoundOver S n ds cap θ   they are so in the n variables of the space with marks S, of the degrees ds
 --   IsOver S θ B ls ps          over the space S, B are the standard monomials of the ideal of θ, of small degrees; ls are the terms of
 --                               the lifts of the relations of θ, and ps are the least powers of the variables with their coordinates
+--   IsFreeOver S M n ds θ P     M is the space of the polynomials in the n variables of S and a mark for each of θ, of its degree ds, and
+--                               over it P is the free module over θ
 use Rattle.std.specs.Prelude.{◌≡◌, ◌≤◌, ◌<◌, ℕ, List, [], ◌∷◌, All, length, replicate}
 use Rattle.alg_core.specs.DpOrder.{dp_order}
 use Rattle.alg_core.specs.PolynomialSpaces.{plain_space, marked_space}
@@ -22,6 +24,7 @@ use Rattle.finite_certificate.specs.declared.power.Power.{Power}
 use Rattle.groebner_hom.specs.IdealBases.{NoIdealAbove}
 use Rattle.groebner_hom.specs.Lifts.{AreLifts, AreLeastPowers}
 use Rattle.secondary_gens.specs.Forms.{IsPositiveForm, degrees_of}
+use Rattle.primary_module.specs.PrimaryModules.{Primaries, StandsOver}
 use Rattle.invring_app.specs.SmallMonomials.{IsSmallMonomial}
 
 pub record IsPlain {E : Type 0} (S : SpaceOver E) : Type 0 where
@@ -61,3 +64,9 @@ pub record IsOver {E : Type 0} (S : SpaceOver E) (θ : List (List (Term E (List 
   pub are_lifts : AreLifts (marked_space S.field (length S.weights) (degrees_of θ)) (length S.weights) (vectors_of S (λ m. m) θ) (vectors_of S (λ m. m) ls)
   pub forms : All (λ p. IsPoly (marked_space S.field (length S.weights) (degrees_of θ)) (λ m. m) p.form) ps
   pub least : AreLeastPowers S.field (length S.weights) (vectors_of S (λ m. m) θ) (powers_of S ps)
+
+pub record IsFreeOver {E : Type 0} (S M : SpaceOver E) (n : ℕ) (ds : List ℕ) (θ : List (List (Term E (List ℕ)))) (P : Primaries E) : Type 0 where
+  pub beside : IsMarkedBeside S M n ds
+  pub marks : ds ≡ degrees_of θ
+  pub stands : StandsOver M n ds P
+  pub same : vectors_of S (λ m. m) P.theta ≡ vectors_of S (λ m. m) θ

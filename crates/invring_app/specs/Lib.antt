@@ -18,3 +18,6 @@ pub mod AveragedGroups
 pub mod RingFaults
 pub mod KernelValues
 pub mod Headline
+pub mod EvidenceLines
+pub mod RankedScripts
+pub mod GeneratingParts

@@ -3,7 +3,7 @@ use alg_core::{InputFault, Memory, Place};
 use finvar_text::ScriptFault;
 use invariant_space::SpaceFault;
 use matrix_group::GroupFault;
-use module_groebner::BasisBound;
+use module_groebner::{BasisBound, BasisFault};
 use primary_module::RankFault;
 use primary_search::SearchFault;
 
@@ -102,6 +102,30 @@ impl From<SearchFault<u16>> for Fault {
                 degree,
             }),
             SearchFault::Memory => Fault::Memory,
+        }
+    }
+}
+
+impl From<BasisFault<u16>> for Fault {
+    ghost use Rattle.invring_app.specs.Faults.{fault_of_basis};
+    ghost use Rattle.std.specs.Prelude.{◌≡◌};
+
+    ghost from_gives = { λ e f. f ≡ fault_of_basis e };
+
+    fn from(fault: BasisFault<u16>) -> Fault {
+        match fault {
+            BasisFault::Above(
+                BasisBound {
+                    vector,
+                    degree,
+                    which,
+                },
+            ) => Fault::Bound(BoundFault::BasisBound {
+                which,
+                vector,
+                degree,
+            }),
+            BasisFault::Memory => Fault::Memory,
         }
     }
 }

@@ -11,11 +11,14 @@ ghost use Rattle.invring_app.specs.Answers.{IsAnswer, IsFault};
 ghost use Rattle.invring_app.specs.Endings.{Answers};
 
 mod averages;
+mod evidence;
+mod generators;
+mod images;
 mod kernels;
 mod marks;
 mod over;
 mod present;
-mod secondaries;
+mod ranked;
 mod unmarked;
 mod whole;
 mod written;

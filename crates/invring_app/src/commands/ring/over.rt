@@ -10,7 +10,7 @@ ghost use Rattle.groebner_hom.specs.Lifts.{AreLeastPowers, AreUnmarkedLifts, Hav
 ghost use Rattle.primary_module.specs.PrimaryModules.{rank_limit, StandsOver};
 ghost use Rattle.primary_module.specs.declared.fault.RankFault.TheVariants as ranks;
 ghost use Rattle.alg_core.specs.Spaces.{over};
-ghost use Rattle.invring_app.specs.FoundPrimaries.{AreFound, AreFoundOver, IsOver};
+ghost use Rattle.invring_app.specs.FoundPrimaries.{AreFound, AreFoundOver, IsOver, IsFreeOver};
 
 use super::marks::all_with_marks;
 use alg_core::{BlockOrder, Dp, Field, Memory, Space, TermOrder};
@@ -25,9 +25,18 @@ use std::alloc::Global;
 
 /// The free module, and the least power of each variable with its coordinates.
 #[derive(Drop)]
-pub(crate) struct OverPrimaries<E> {
-    pub(crate) free_module: PrimaryModule<E>,
-    pub(crate) powers: Vec<Power<E>>,
+struct OverTheta<E> {
+    free_module: PrimaryModule<E>,
+    powers: Vec<Power<E>>,
+}
+
+/// The space with a mark for each primary invariant, the polynomials as a free module over these, and the
+/// least power of each variable with its coordinates.
+#[derive(Drop)]
+pub(crate) struct OverPrimaries {
+    pub(crate) space: Space<PrimeField, BlockOrder>,
+    pub(crate) free_module: PrimaryModule<u16>,
+    pub(crate) powers: Vec<Power<u16>>,
 }
 
 /// The lifts of the relations. There is no element above the cap, since the ideal has none.
@@ -53,13 +62,13 @@ fn lifts_of<F: Field>(
 
 /// The free module over theta. RankBound comes exactly where there are more standard monomials than the
 /// limit allows.
-pub(crate) fn over_theta<F: Field>(
+fn over_theta<F: Field>(
     alloc: Global,
     space: &Space<F, BlockOrder>,
     theta: Vec<Poly<F::Elem>>,
     max_basis: u32,
     max_rank: u32,
-) -> Result<OverPrimaries<F::Elem>, RankFault>
+) -> Result<OverTheta<F::Elem>, RankFault>
     requires found { AreFoundOver (mark_space F.field space.now) space.now.order.vars space.now.order.weights.items max_basis theta.items }
     requires rank { max_rank ≤ rank_limit }
     ensures stands { let S = mark_space F.field space.now in
@@ -79,7 +88,7 @@ pub(crate) fn over_theta<F: Field>(
     let lifts = lifts_of(alloc, space, theta.as_slice(), max_basis)?;
     let powers = powers(alloc, space, theta.as_slice(), lifts.as_slice())?;
     let free_module = PrimaryModule::new(alloc, space, theta, lifts, max_rank)?;
-    Ok(OverPrimaries {
+    Ok(OverTheta {
         free_module,
         powers,
     })
@@ -93,11 +102,14 @@ pub(crate) fn over_primaries(
     primaries: &[Poly<u16>],
     max_basis: u32,
     max_rank: u32,
-) -> Result<OverPrimaries<u16>, RankFault>
+) -> Result<OverPrimaries, RankFault>
     requires found { AreFound (over (⟦<PrimeField as Field>⟧.field) (⟦<Dp as TermOrder>⟧.order) space.now) max_basis primaries.now }
     requires rank { max_rank ≤ rank_limit }
     ensures is { let S = over (⟦<PrimeField as Field>⟧.field) (⟦<Dp as TermOrder>⟧.order) space.now in
         IfOk result (λ o. IsOver S primaries.now o.free_module.monomials o.free_module.lifts o.powers.items) }
+    ensures free { let S = over (⟦<PrimeField as Field>⟧.field) (⟦<Dp as TermOrder>⟧.order) space.now in
+        IfOk result (λ o. let M = mark_space (⟦<PrimeField as Field>⟧.field) o.space in
+        IsFreeOver S M o.space.order.vars o.space.order.weights.items primaries.now o.free_module) }
     ensures within { IfOk result (λ o. length o.free_module.monomials ≤ max_rank) }
     ensures bound { let S = over (⟦<PrimeField as Field>⟧.field) (⟦<Dp as TermOrder>⟧.order) space.now in
         (counted : ℕ) → result ≡ Err (ranks.RankBound counted)
@@ -108,5 +120,9 @@ pub(crate) fn over_primaries(
     let marked = Space::with_marks(alloc, space.field, variables, degrees.as_slice())?;
     let theta = all_with_marks(alloc, &marked, primaries)?;
     let made = over_theta(alloc, &marked, theta, max_basis, max_rank)?;
-    Ok(made)
+    Ok(OverPrimaries {
+        space: marked,
+        free_module: made.free_module,
+        powers: made.powers,
+    })
 }

@@ -1,77 +1,27 @@
 //! The certificate of a script, part by part.
 
-ghost use Rattle.std.specs.Prelude.{◌≡◌, ◌≤◌, IfErr, IfOk};
+ghost use Rattle.std.specs.Prelude.{◌≡◌, IfErr, IfOk};
 ghost use Rattle.alg_core.specs.LimitRanges.{AreLimits};
 ghost use Rattle.certificate_io.specs.Printable.{IsPrintable};
 ghost use Rattle.finvar_text.specs.Problems.{problem_in, IsSound};
-ghost use Rattle.invring_app.specs.AveragedGroups.{AveragesOver};
 ghost use Rattle.invring_app.specs.Commands.Rings.{IsCertificateOf, IsKept};
 ghost use Rattle.invring_app.specs.RingFaults.{IsRingTold};
 
-use super::over::over_primaries;
-use super::secondaries::secondaries_by_averages;
-use super::written::{copies, written};
+use super::generators::generators;
+use super::images::images;
+use super::ranked::ranked;
+use super::written::copies;
 use crate::fault::Fault;
 use crate::field::field_of;
-use alg_core::{Limits, Space};
-use certificate_io::{Certificate, Evidence};
+use alg_core::Limits;
+use certificate_io::Certificate;
 use finvar_text::Script;
 use matrix_group::enumerate;
-use primary_search::search;
 use reynolds_op::Reynolds;
 use std::alloc::Global;
 
-/// The certificate of the script, by the averages over the group of its generators.
-fn by_averages<'g>(
-    alloc: Global,
-    script: Script,
-    averaging: &Reynolds<'g, u16>,
-    order: u64,
-    limits: &Limits,
-) -> Result<Certificate<u16>, Fault>
-    requires sound { IsSound script }
-    requires limits { AreLimits limits.now }
-    requires group { AveragesOver (problem_in script) limits.now script.gens.items order averaging.now }
-    ensures certificate { IfOk result (λ c. IsCertificateOf (problem_in script) limits.now.tries c) }
-    ensures kept { IfOk result (λ c. IsKept (problem_in script) limits.now) }
-    ensures printable { IfOk result (λ c. IsPrintable c) }
-    ensures fault { IfErr result (IsRingTold (problem_in script) limits.now) }
-{
-    let field = field_of(script.characteristic);
-    let variables = script.names.len() as u32;
-    let space = Space::of_variables(alloc, field, variables)?;
-    let primaries = search(alloc, &space, &script.gens, limits)?;
-    let module = over_primaries(alloc, &space, &primaries, limits.max_basis, limits.max_rank)?;
-    let monomials = module.free_module.monomials();
-    let averaged = secondaries_by_averages(
-        alloc,
-        &space,
-        &script.gens,
-        averaging,
-        &primaries,
-        monomials,
-        limits.max_terms,
-    )?;
-    let parts = written(alloc, &space, &primaries, monomials, &averaged)?;
-    let lifts = copies(alloc, module.free_module.lifts())?;
-    let rank = monomials.len() as u64;
-    Ok(Certificate {
-        characteristic: script.characteristic,
-        names: script.names,
-        matrices: script.gens,
-        order,
-        primaries,
-        lifts,
-        powers: module.powers,
-        rank,
-        secondaries: averaged.secondaries,
-        evidence: Evidence::Reynolds(parts.images),
-        irreducibles: parts.irreducibles,
-        words: parts.words,
-    })
-}
-
-/// The certificate of the script.
+/// The certificate of the script: by averages, or where the characteristic divides the order of the group by
+/// kernel evidence.
 pub(crate) fn certificate(
     alloc: Global,
     script: Script,
@@ -86,8 +36,26 @@ pub(crate) fn certificate(
 {
     let field = field_of(script.characteristic);
     let group = enumerate(alloc, &field, &script.gens, limits.max_order)?;
-    let Some(averaging) = Reynolds::of(&field, &group) else {
-        return Err(Fault::Modular);
-    };
-    by_averages(alloc, script, &averaging, group.order(), limits)
+    let order = group.order();
+    let averaging = Reynolds::of(&field, &group);
+    let ranked = ranked(alloc, &script, limits)?;
+    let images = images(alloc, &script, &ranked, averaging, order, limits)?;
+    let made = generators(alloc, &script, &ranked, images, order, limits)?;
+    let free_module = ranked.over.free_module;
+    let rank = free_module.monomials().len() as u64;
+    let lifts = copies(alloc, free_module.lifts())?;
+    Ok(Certificate {
+        characteristic: script.characteristic,
+        names: script.names,
+        matrices: script.gens,
+        order,
+        primaries: ranked.primaries,
+        lifts,
+        powers: ranked.over.powers,
+        rank,
+        secondaries: made.secondaries,
+        evidence: made.evidence,
+        irreducibles: made.irreducibles,
+        words: made.words,
+    })
 }

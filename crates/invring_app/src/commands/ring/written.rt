@@ -12,9 +12,7 @@ ghost use Rattle.irreducible_gens.specs.Words.{IsWordOf};
 ghost use Rattle.invring_app.specs.WrittenParts.{AreWritable, AreWritten};
 
 use super::present::present;
-use super::secondaries::Averaged;
-use alg_core::{Field, Memory, Mono, Monomial, Space, TermOrder};
-use certificate_io::Image;
+use alg_core::{Field, Memory, Space, TermOrder};
 use irreducible_gens::{choose, words};
 use poly_module::{Comb, Poly, copy};
 use secondary_gens::combine_all;
@@ -40,24 +38,6 @@ fn combinations<F: Field, O: TermOrder>(
     let found = combine_all(alloc, space, theta, secs, fs)?;
     let combinations = present(alloc, found)?;
     Ok(combinations)
-}
-
-/// The monomials, each with the combination at its place.
-fn images<E: Copy>(
-    alloc: Global,
-    monomials: &[Mono],
-    combs: Vec<Comb<E>>,
-) -> Result<Vec<Image<E>>, Memory>
-    requires same { length monomials.now ≡ length combs.items }
-    ensures monomials { IfOk result (λ ls. map (λ x. x.mono) ls.items ≡ monomials.now) }
-    ensures combinations { IfOk result (λ ls. map (λ x. x.comb) ls.items ≡ combs.items) }
-{
-    let mut lines = Vec::new(alloc);
-    for comb in combs {
-        let mono = monomials[lines.len()].copy(alloc)?;
-        lines.push(Image { mono, comb })?;
-    }
-    Ok(lines)
 }
 
 /// The printed words of forms that are polynomials in the primary invariants and the generators.
@@ -113,38 +93,34 @@ pub(crate) fn copies<E: Copy>(alloc: Global, fs: &[Poly<E>]) -> Result<Vec<Poly<
     Ok(made)
 }
 
-/// What is written of the secondary invariants: the lines of the averages, the irreducible generators and
-/// the words, one for each secondary invariant.
+/// What is written of the secondary invariants and of forms that generate: the combinations of the forms, the
+/// irreducible generators and the words, one for each secondary invariant.
 #[derive(Drop)]
-pub(crate) struct GeneratorParts<E> {
-    pub(crate) images: Vec<Image<E>>,
+pub(crate) struct Written<E> {
+    pub(crate) combs: Vec<Comb<E>>,
     pub(crate) irreducibles: Vec<Poly<E>>,
     pub(crate) words: Vec<Poly<E>>,
 }
 
-/// The lines of the averages, the irreducible generators and the words.
-pub(crate) fn written<F: Field, O: TermOrder>(
+/// The combinations of the forms, the irreducible generators and the words.
+pub(crate) fn written_parts<F: Field, O: TermOrder>(
     alloc: Global,
     space: &Space<F, O>,
     theta: &[Poly<F::Elem>],
-    monomials: &[Mono],
-    averaged: &Averaged<F::Elem>,
-) -> Result<GeneratorParts<F::Elem>, Memory>
+    forms: &[Poly<F::Elem>],
+    secondaries: &[Poly<F::Elem>],
+) -> Result<Written<F::Elem>, Memory>
     requires polynomials { HasPolynomials (over F.field O.order space.now) }
-    requires given { AreWritable (over F.field O.order space.now) theta.now monomials.now averaged.now.images.items averaged.now.secondaries.items }
+    requires given { AreWritable (over F.field O.order space.now) theta.now forms.now secondaries.now }
     ensures are { let S = over F.field O.order space.now in
-        IfOk result (λ w. AreWritten S theta.now monomials.now averaged.now.images.items averaged.now.secondaries.items
-        w.images.items w.irreducibles.items w.words.items) }
+        IfOk result (λ w. AreWritten S theta.now forms.now secondaries.now w.combs.items w.irreducibles.items w.words.items) }
 {
-    let secondaries = averaged.secondaries.as_slice();
-    let averages = averaged.images.as_slice();
-    let combs = combinations(alloc, space, theta, secondaries, averages)?;
-    let images = images(alloc, monomials, combs)?;
+    let combs = combinations(alloc, space, theta, secondaries, forms)?;
     let places = choose(alloc, space, theta, secondaries)?;
     let irreducibles = at_places(alloc, secondaries, places.as_slice())?;
     let words = word_list(alloc, space, theta, irreducibles.as_slice(), secondaries)?;
-    Ok(GeneratorParts {
-        images,
+    Ok(Written {
+        combs,
         irreducibles,
         words,
     })

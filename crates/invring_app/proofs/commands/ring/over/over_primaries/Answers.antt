@@ -10,7 +10,7 @@ use Rattle.primary_module.specs.declared.fault.RankFault.TheVariants.{RankBound}
 use Rattle.prime_field.specs.PrimeFields.{gfp}
 use Rattle.prime_field.specs.declared.gfp.PrimeField.{PrimeField}
 use Rattle.invring_app.proofs.AverageSteps.{told}
-use Rattle.invring_app.proofs.OverPlain.{space_is, unmarked_is, found_over, bound_is, over_is}
+use Rattle.invring_app.proofs.OverPlain.{space_is, unmarked_is, found_over, bound_is, over_is, free_is}
 use Rattle.invring_app.proofs.commands.ring.over.over_primaries.Goals as goal
 
 abbrev plain : Space PrimeField Dp → SpaceOver ℕ
@@ -77,3 +77,14 @@ returns-clause-is c =
     (made.is ∙ ap₂ (λ i ws. marked_space S.field i ws) many marks) (made.variables ∙ many) (made.marks ∙ marks)
     c.in_ok-theta.theta.items c.in_ok-theta.ensures.same c.in_ok-made.made.free_module c.in_ok-made.made.powers.items c.in_ok-made.ensures.stands c.in_ok-made.ensures.theta
     c.in_ok-made.ensures.low (omega arith) c.in_ok-made.ensures.fit c.in_ok-made.ensures.least
+
+pub returns-clause-free : goal.returns-clause-free
+returns-clause-free c =
+    let S = plain c.args.space.now in
+    let made = c.in_ok-marked.ensures in
+    let few = c.requires.found.few in
+    let many : c.len-variables.result ≡ length S.weights = omega arith in
+    let marks = c.as_slice.ensures.value ∙ c.in_ok-degrees.ensures.are in
+    free_is S c.args.max_basis c.args.primaries.now c.requires.found (marked c.in_ok-marked.marked) c.in_ok-marked.marked.order.vars c.in_ok-marked.marked.order.weights.items
+    (made.is ∙ ap₂ (λ i ws. marked_space S.field i ws) many marks) (made.variables ∙ many) (made.marks ∙ marks)
+    c.in_ok-theta.theta.items c.in_ok-theta.ensures.same c.in_ok-made.made.free_module c.in_ok-made.ensures.stands c.in_ok-made.ensures.theta

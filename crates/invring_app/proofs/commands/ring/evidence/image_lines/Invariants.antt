@@ -1,5 +1,5 @@
 use Rattle.std.proofs.Common.{◌≡◌, take, length, map}
-use Rattle.invring_app.proofs.commands.ring.written.images.Given as goal
+use Rattle.invring_app.proofs.commands.ring.evidence.image_lines.Given as goal
 
 abbrev pub invariant-loop-comb : goal.invariant-loop-comb
 invariant-loop-comb g l =
