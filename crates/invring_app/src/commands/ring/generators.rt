@@ -35,7 +35,7 @@ pub(crate) struct Generators {
 }
 
 /// The secondary invariants that the images give, and what is written of them.
-pub(crate) fn generators(
+pub(crate) fn generators_of(
     alloc: Global,
     script: &Script,
     ranked: &Ranked,

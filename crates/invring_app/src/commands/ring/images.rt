@@ -33,7 +33,7 @@ pub(crate) struct Images {
 }
 
 /// The averages over the group where there are any, else the values of the fixed members.
-pub(crate) fn images<'g>(
+pub(crate) fn images_of<'g>(
     alloc: Global,
     script: &Script,
     ranked: &Ranked,

@@ -28,7 +28,7 @@ pub(crate) struct Ranked {
 }
 
 /// The primary invariants with which the search ends, and the free module over them.
-pub(crate) fn ranked(alloc: Global, script: &Script, limits: &Limits) -> Result<Ranked, Fault>
+pub(crate) fn rank_script(alloc: Global, script: &Script, limits: &Limits) -> Result<Ranked, Fault>
     requires sound { IsSound script.now }
     requires limits { AreLimits limits.now }
     requires group { (N : ℕ) × IsGrouped (problem_in script.now) limits.now N }

@@ -7,9 +7,9 @@ ghost use Rattle.finvar_text.specs.Problems.{problem_in, IsSound};
 ghost use Rattle.invring_app.specs.Commands.Rings.{IsCertificateOf, IsKept};
 ghost use Rattle.invring_app.specs.RingFaults.{IsRingTold};
 
-use super::generators::generators;
-use super::images::images;
-use super::ranked::ranked;
+use super::generators::generators_of;
+use super::images::images_of;
+use super::ranked::rank_script;
 use super::written::copies;
 use crate::fault::Fault;
 use crate::field::field_of;
@@ -38,9 +38,9 @@ pub(crate) fn certificate(
     let group = enumerate(alloc, &field, &script.gens, limits.max_order)?;
     let order = group.order();
     let averaging = Reynolds::of(&field, &group);
-    let ranked = ranked(alloc, &script, limits)?;
-    let images = images(alloc, &script, &ranked, averaging, order, limits)?;
-    let made = generators(alloc, &script, &ranked, images, order, limits)?;
+    let ranked = rank_script(alloc, &script, limits)?;
+    let images = images_of(alloc, &script, &ranked, averaging, order, limits)?;
+    let made = generators_of(alloc, &script, &ranked, images, order, limits)?;
     let free_module = ranked.over.free_module;
     let rank = free_module.monomials().len() as u64;
     let lifts = copies(alloc, free_module.lifts())?;

@@ -13,4 +13,4 @@ use Rattle.invring_app.specs.RingFaults.{IsRingTold}
 use Rattle.invring_app.proofs.FaultLaws.{handed-on}
 use Rattle.invring_app.proofs.RankedSteps.{square_in, fixed_primaries, graph_fault, averaged_of}
 use Rattle.invring_app.proofs.RingSteps.{space_of, graph_told}
-use Rattle.invring_app.proofs.commands.ring.images.images.Goals as goal
+use Rattle.invring_app.proofs.commands.ring.images.images_of.Goals as goal

@@ -17,7 +17,7 @@ use Rattle.invring_app.proofs.GeneratorLaws.{squares}
 use Rattle.invring_app.proofs.PrimaryLines.{positive-is, shift-is, told-is}
 use Rattle.invring_app.proofs.RankedSteps.{rank_fault}
 use Rattle.invring_app.proofs.RingSteps.{space_of, ground_of, search_told, rank_told}
-use Rattle.invring_app.proofs.commands.ring.ranked.ranked.Goals as goal
+use Rattle.invring_app.proofs.commands.ring.ranked.rank_script.Goals as goal
 
 pub search-requires-clause-positive : goal.search-requires-clause-positive
 search-requires-clause-positive c = positive-is _ _ _ c.in_ok-space.ensures.is
