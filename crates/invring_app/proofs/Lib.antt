@@ -42,3 +42,4 @@ pub mod FixedSteps
 pub mod KernelSteps
 pub mod WholeCertificates
 pub mod EvidenceSteps
+pub mod GeneratorSteps

@@ -7,11 +7,13 @@ use Rattle.alg_core.specs.DpOrder.{dp_order}
 use Rattle.alg_core.specs.Spaces.{SpaceOver}
 use Rattle.alg_core.specs.declared.limits.Limits.{Limits}
 use Rattle.alg_core.specs.declared.term.Term.{Term}
+use Rattle.alg_core.specs.Monomials.{mono}
+use Rattle.poly_module.specs.Polynomials.{single_vector}
 use Rattle.poly_module.specs.SpaceVectors.{vector_of, vectors_of}
 use Rattle.lin_algebra.specs.declared.matrix.Matrix.{Matrix}
 use Rattle.matrix_group.specs.Actions.{IsSquare, Invariant}
 use Rattle.matrix_group.specs.Groups.{cells_of, size, AreElements, IsOrder}
-use Rattle.reynolds_op.specs.Averages.{Averaging, AveragesOn, IsAveraging}
+use Rattle.reynolds_op.specs.Averages.{Averaging, AveragesOn, IsAveraging, reynolds}
 use Rattle.module_groebner.specs.BasisBounds.{IsBasisBound}
 use Rattle.module_groebner.specs.declared.bound.BasisBound.{BasisBound as Bound}
 use Rattle.module_groebner.specs.declared.bound.Which.TheVariants.{Graph}
@@ -22,7 +24,8 @@ use Rattle.finvar_text.specs.declared.script.Script.{Script}
 use Rattle.primary_module.specs.PrimaryModules.{Primaries}
 use Rattle.primary_search.specs.Searches.{IsEnd}
 use Rattle.primary_search.proofs.FirstLaws.{first_invariant}
-use Rattle.secondary_gens.specs.Forms.{degrees_of}
+use Rattle.secondary_gens.specs.Forms.{degrees_of, IsSmallForm}
+use Rattle.secondary_gens.specs.Lists.{Each}
 use Rattle.secondary_gens.specs.Secondaries.{IsFirstPast, IsPastBound}
 use Rattle.syzygy_kernel.specs.Graphs.{InGraph, graph_space}
 use Rattle.syzygy_kernel.specs.declared.member.Member.{Member}
@@ -34,6 +37,7 @@ use Rattle.invring_app.specs.Commands.Primaries.{IsGroundOf}
 use Rattle.invring_app.specs.Commands.Rings.{IsKept, IsGrouped, IsFound, IsRanked, AreAverages, AreFixedValues, AreImages, IsRankFault, IsGraphFault, IsImageFault}
 use Rattle.invring_app.specs.GeneratingParts.{AreGenerating, IsSourceOf}
 use Rattle.invring_app.specs.RankedScripts.{IsScriptSpace, IsRankedOver}
+use Rattle.invring_app.proofs.AverageSteps.{are_averages, images_fixed, images_generate}
 use Rattle.invring_app.proofs.EndingLaws.{field-one}
 use Rattle.invring_app.proofs.GeneratorLaws.{squares, size-is, shapes-are}
 use Rattle.invring_app.proofs.OverPlain.{forms_are}
@@ -91,6 +95,14 @@ module _ (script : Script) (sound : IsSound script) (l : Limits) (S : SpaceOver 
   pub fixed_primaries : All (Invariant S.field script.gens.items) (vectors_of S (λ m. m) θ)
   fixed_primaries = first_invariant S script.gens.items l.tries (vectors_of S (λ m. m) θ) r.first
 
+  pub fixed_terms : All (λ p. Invariant S.field script.gens.items (vector_of S (λ m. m) p)) θ
+  fixed_terms = each θ fixed_primaries
+    where
+      each : (ts : List Terms) → All (Invariant S.field script.gens.items) (vectors_of S (λ m. m) ts) → All (λ p. Invariant S.field script.gens.items (vector_of S (λ m. m) p)) ts
+      each [] h = All-nil (λ p. Invariant S.field script.gens.items (vector_of S (λ m. m) p))
+      each (t ∷ ts) h = All-cons (λ p. Invariant S.field script.gens.items (vector_of S (λ m. m) p)) t ts
+          (All-head (Invariant S.field script.gens.items) (vector_of S (λ m. m) t) (vectors_of S (λ m. m) ts) h) (each ts (All-tail (Invariant S.field script.gens.items) (vector_of S (λ m. m) t) (vectors_of S (λ m. m) ts) h))
+
   ranked_of : IsRanked (problem_in script) l S script.gens.items (vectors_of S (λ m. m) θ) P.monomials
   ranked_of = record { found = found_of script sound l S r.ground N group θ r.end; standard = r.over.standard; few = r.few }
 
@@ -127,15 +139,21 @@ module _ (script : Script) (sound : IsSound script) (l : Limits) (S : SpaceOver 
         positive = r.found.forms;
         degrees = degrees_of θ;
         forms = forms_are S l.max_basis θ r.found;
-        fixed = fixed θ fixed_primaries;
+        fixed = fixed_terms;
         standard = r.over.standard;
         small = r.over.small;
       }
-    where
-      fixed : (ts : List Terms) → All (Invariant S.field script.gens.items) (vectors_of S (λ m. m) ts) → All (λ p. Invariant S.field script.gens.items (vector_of S (λ m. m) p)) ts
-      fixed [] h = All-nil (λ p. Invariant S.field script.gens.items (vector_of S (λ m. m) p))
-      fixed (t ∷ ts) h = All-cons (λ p. Invariant S.field script.gens.items (vector_of S (λ m. m) p)) t ts
-          (All-head (Invariant S.field script.gens.items) (vector_of S (λ m. m) t) (vectors_of S (λ m. m) ts) h) (fixed ts (All-tail (Invariant S.field script.gens.items) (vector_of S (λ m. m) t) (vectors_of S (λ m. m) ts) h))
+  -- the averages generate, and so do the values of the fixed members
+  pub averages_generate : (R : Averaging ℕ) → AveragesOver (problem_in script) script.gens.items N R → (fs : List Terms) → All (IsSmallForm S) fs
+      → Each (λ b f. vector_of S (λ m. m) f ≡ reynolds S.field (size R.elements) R (single_vector S.field (0, mono b))) P.monomials fs → AreGenerating S script.characteristic N l.max_basis script.gens.items θ P.monomials fs None
+  averages_generate R averages fs forms each =
+      let given = averaged_of R averages in
+      record {
+        source = (averages.undivided, are_averages S script.gens.items R θ P.monomials given P.monomials fs each);
+        forms = forms;
+        fixed = images_fixed S script.gens.items R θ P.monomials given P.monomials fs each;
+        complete = images_generate S script.gens.items R θ P.monomials given fs each;
+      }
 
   module _ (fs : List Terms) (o : Option (List (Member ℕ))) (g : AreGenerating S script.characteristic N l.max_basis script.gens.items θ P.monomials fs o) where
     images_of : AreImages (problem_in script) l S script.gens.items (vectors_of S (λ m. m) θ) P.monomials fs

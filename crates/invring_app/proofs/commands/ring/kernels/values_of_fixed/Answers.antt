@@ -17,3 +17,6 @@ value_of-requires-clause-member c =
 
 pub loop-i-preserved : goal.loop-i-preserved
 loop-i-preserved c = ?
+
+pub returns : goal.returns
+returns c = ?
