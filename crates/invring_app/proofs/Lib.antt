@@ -43,3 +43,4 @@ pub mod KernelSteps
 pub mod WholeCertificates
 pub mod EvidenceSteps
 pub mod GeneratorSteps
+pub mod GroupSteps

@@ -31,3 +31,23 @@ use Rattle.invring_app.proofs.commands.ring.images.images_of.Goals as goal
 
 abbrev marked : Space PrimeField BlockOrder → SpaceOver ℕ
 marked s = mark_space (λ (f : PrimeField). gfp f.p f.listed) s
+
+pub kernel_values-requires-clause-free : goal.kernel_values-requires-clause-free
+kernel_values-requires-clause-free c =
+    let r = c.args.ranked.now in
+    let S = space_of r.space in
+    subst (λ ps. IsFreeOver S (marked r.over.space) r.over.space.order.vars r.over.space.order.weights.items ps r.over.free_module) (sym c.deref.ensures.value) c.requires.ranked.free
+
+pub kernel_values-requires-clause-square : goal.kernel_values-requires-clause-square
+kernel_values-requires-clause-square c =
+    let S = space_of c.args.ranked.now.space in
+    subst (All (IsSquare S.field (length S.weights))) (sym c.deref-2.ensures.value) (square_in c.args.script.now c.requires.sound c.args.limits.now S c.requires.ranked.ground)
+
+pub kernel_values-requires-clause-fixed : goal.kernel_values-requires-clause-fixed
+kernel_values-requires-clause-fixed c =
+    let r = c.args.ranked.now in
+    let S = space_of r.space in
+    let x = vectors_of S (λ m. m) in
+    subst (λ gs. All (Invariant S.field gs) (x c.deref.result.now)) (sym c.deref-2.ensures.value)
+    (subst (λ ps. All (Invariant S.field c.args.script.now.gens.items) (x ps)) (sym c.deref.ensures.value)
+    (fixed_primaries c.args.script.now c.requires.sound c.args.limits.now S r.primaries.items (marked r.over.space) r.over.space.order.vars r.over.space.order.weights.items r.over.free_module r.over.powers.items c.requires.ranked c.args.order c.requires.group))
