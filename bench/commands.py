@@ -7,6 +7,7 @@ machine.
     bench/commands.py [RUNS [COMMAND ..]]"""
 import math
 import os
+import re
 import shutil
 import statistics
 import subprocess
@@ -57,6 +58,32 @@ CASES = [
     ("ring of the square's symmetries, GF(7)", 7, [images([1, 0], [1]), images([1, 0])], ["ring"]),
     ("ring of the shift of five over GF(7)", 7, [images([1, 2, 3, 4, 0])], ["ring"]),
 ]
+# Groups whose order the characteristic divides, ten of them in at most four variables; the scripts are in examples/.
+MODULAR = [
+    "cyclic_three",
+    "cyclic_four",
+    "two_swaps",
+    "two_transvections",
+    "jordan_four",
+    "two_vectors",
+    "alternating_four",
+    "symmetric_four",
+    "unipotent_two",
+    "unipotent_three",
+    "three_swaps",
+    "two_jordan_three",
+]
+
+
+def example(name):
+    """The characteristic and the matrices of a script in examples/."""
+    with open(os.path.join(TOP, "examples", f"{name}.sing")) as file:
+        text = file.read()
+    cells = re.findall(r"matrix \w+\[\d+\]\[\d+\]=([^;]*);", text)
+    return int(re.search(r"ring \w+=(\d+),", text).group(1)), [c.split(",") for c in cells]
+
+
+CASES += [(f"ring of examples/{name}", *example(name), ["ring"]) for name in MODULAR]
 
 
 def names_of(matrices):
@@ -113,6 +140,7 @@ def main():
     wanted = sys.argv[2:]
     other = shutil.which("Singular")
     print(f"{'task':<40} {'least s':>8} {'median s':>9} {'MB':>6} {'lines':>6} {'Singular/ours':>14}")
+    ratios = []
     for name, p, matrices, words in CASES:
         if wanted and words[0] not in wanted:
             continue
@@ -127,9 +155,14 @@ def main():
         if other and task:
             first = run([other, "-q"], task)
             theirs = [first] + [run([other, "-q"], task) for _ in range(runs - 1) if first]
-            ratio = "failed or 120 s" if None in theirs else f"{min(t[0] for t in theirs) / least:.2g}"
+            ratio = "failed or 120 s"
+            if None not in theirs:
+                ratios.append(min(t[0] for t in theirs) / least)
+                ratio = f"{ratios[-1]:.2g}"
         median = statistics.median(g[0] for g in got)
         print(f"{name:<40} {least:8.3f} {median:9.3f} {max(g[1] for g in got):6.0f} {got[0][2]:6d} {ratio:>14}")
+    if ratios:
+        print(f"{'geometric mean of the ratios':<40} {statistics.geometric_mean(ratios):>39.2g}")
 
 
 main()
