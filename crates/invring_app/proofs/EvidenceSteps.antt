@@ -1,7 +1,7 @@
 -- The lines of kernel evidence, one after another: each fixed member takes the next combination.
-use Rattle.std.proofs.Common.{◌≡◌, ◌∙◌, ◌+◌, ◌<◌, ◌≤◌, ℕ, zero, suc, Bool, true, false, List, [], ◌∷◌, ◌++◌, Option, None, Some, length, map, refl, sym, ap, ap₂, subst, append-assoc, append-nil, map-append, arith}
+use Rattle.std.proofs.Common.{◌≡◌, ◌∙◌, ◌+◌, ◌<◌, ◌≤◌, ℕ, zero, suc, Bool, true, false, List, [], ◌∷◌, ◌++◌, Option, None, Some, length, map, refl, sym, ap, ap₂, subst, append_assoc, append-nil, arith}
 use Rattle.std.specs.Prelude.{is_some, option_to_list, if◌then◌else◌}
-use Rattle.std.proofs.lemmas.List.{length-append}
+use Rattle.module_groebner.proofs.Families.{map_append}
 use Rattle.poly_module.specs.declared.vector.Comb.{Comb}
 use Rattle.syzygy_kernel.specs.declared.member.Member.{Member}
 use Rattle.certificate_io.specs.declared.evidence.Line.{Line}
@@ -9,16 +9,22 @@ use Rattle.cert_check.specs.Parts.{members}
 use Rattle.invring_app.specs.EvidenceLines.{combinations_in, fixed_count}
 
 count_append : (ms os : List (Member ℕ)) → fixed_count (ms ++ os) ≡ fixed_count ms + fixed_count os
-count_append [] os = refl
-count_append (m ∷ ms) os = by m.is_fixed
+count_append [] os = omega arith
+count_append (m ∷ ms) os = by m.is_fixed (count_append ms os)
   where
-    by : (b : Bool) → (if b then suc (fixed_count (ms ++ os)) else fixed_count (ms ++ os)) ≡ (if b then suc (fixed_count ms) else fixed_count ms) + fixed_count os
-    by true = ap suc (count_append ms os)
-    by false = count_append ms os
+    by : (b : Bool) → fixed_count (ms ++ os) ≡ fixed_count ms + fixed_count os
+        → (if b then suc (fixed_count (ms ++ os)) else fixed_count (ms ++ os)) ≡ (if b then suc (fixed_count ms) else fixed_count ms) + fixed_count os
+    by true e = omega arith
+    by false e = e
 
 combinations_append : (ls ks : List (Line ℕ)) → combinations_in (ls ++ ks) ≡ combinations_in ls ++ combinations_in ks
 combinations_append [] ks = refl
-combinations_append (l ∷ ls) ks = ap (λ t. option_to_list l.comb ++ t) (combinations_append ls ks) ∙ sym (append-assoc (option_to_list l.comb) (combinations_in ls) (combinations_in ks))
+combinations_append (l ∷ ls) ks = ap (λ t. option_to_list l.comb ++ t) (combinations_append ls ks) ∙ sym (append_assoc (option_to_list l.comb) (combinations_in ls) (combinations_in ks))
+
+-- of an iterator that has no item left
+pub nothing_left : {A : Type 0} (xs : List A) (n : ℕ) → n ≡ length xs → n ≡ 0 → xs ≡ []
+nothing_left [] n is none = refl
+nothing_left (x ∷ xs) n is none = absurd (omega arith)
 
 module _ (cs : List (Comb ℕ)) where
   -- the lines of the members so far, and the combinations that are left
@@ -28,17 +34,17 @@ module _ (cs : List (Comb ℕ)) where
     pub count : fixed_count given + length rest ≡ length cs
 
   pub lined_start : Lined [] [] cs
-  lined_start = record { are_members = refl; combinations = refl; count = refl }
+  lined_start = record { are_members = refl; combinations = refl; count = omega arith }
 
   module _ (given : List (Member ℕ)) (ls : List (Line ℕ)) (rest left : List (Comb ℕ)) (was : Lined given ls rest) (m : Member ℕ) (o : Option (Comb ℕ)) (named : is_some o ≡ m.is_fixed) (took : rest ≡ option_to_list o ++ left)
       (now : List (Line ℕ)) (pushed : now ≡ ls ++ record { u = m.u; comb = o } ∷ []) where
-    line : Line ℕ
+    abbrev line : Line ℕ
     line = record { u = m.u; comb = o }
 
     lined_more : Lined (given ++ m ∷ []) now left
     lined_more = subst (λ ks. Lined (given ++ m ∷ []) ks left) (sym pushed) (record {
-      are_members = map-append _ ls (line ∷ []) ∙ ap₂ (λ xs b. xs ++ record { u = m.u; is_fixed = b } ∷ []) was.are_members named;
-      combinations = ap (λ t. t ++ left) (combinations_append ls (line ∷ [])) ∙ append-assoc (combinations_in ls) (option_to_list o ++ []) left
+      are_members = map_append _ ls (line ∷ []) ∙ ap₂ (λ xs b. xs ++ record { u = m.u; is_fixed = b } ∷ []) was.are_members named;
+      combinations = ap (λ t. t ++ left) (combinations_append ls (line ∷ [])) ∙ append_assoc (combinations_in ls) (option_to_list o ++ []) left
           ∙ ap (λ t. combinations_in ls ++ (t ++ left)) (append-nil (option_to_list o)) ∙ ap (λ t. combinations_in ls ++ t) (sym took) ∙ was.combinations;
       count = counted o named took;
     })
@@ -73,3 +79,10 @@ module _ (cs : List (Comb ℕ)) where
       let b : fixed_count (m ∷ later) ≡ suc (fixed_count later) = ap (λ (b : Bool). if b then suc (fixed_count later) else fixed_count later) fixed in
       let d = was.count in
       lined_more given ls rest left was m o (there (omega arith) ∙ sym fixed) took now pushed
+
+  -- the lines of all members have all combinations
+  pub lined_end : (given : List (Member ℕ)) (ls : List (Line ℕ)) (rest : List (Comb ℕ)) → Lined given ls rest → fixed_count given ≡ length cs → combinations_in ls ≡ cs
+  lined_end given ls rest was all =
+      let d = was.count in
+      let none : rest ≡ [] = nothing_left rest (length rest) refl (omega arith) in
+      sym (append-nil (combinations_in ls)) ∙ ap (λ t. combinations_in ls ++ t) (sym none) ∙ was.combinations

@@ -1,29 +1,20 @@
 -- The loop over the members of a kernel: the values of those that are named fixed, one after another.
-use Rattle.std.proofs.Common.{◌≡◌, ◌∙◌, ◌+◌, ◌<◌, ◌≤◌, ℕ, zero, suc, Bool, true, false, List, [], ◌∷◌, ◌++◌, length, map, drop, get_or, refl, sym, ap, ap₂, subst, append-assoc, append-nil, map-append, arith}
+use Rattle.std.proofs.Common.{◌≡◌, ◌∙◌, ◌+◌, ◌<◌, ◌≤◌, ℕ, zero, suc, Bool, true, false, List, [], ◌∷◌, ◌++◌, length, map, drop, get_or, refl, sym, ap, ap₂, subst, append_assoc, append-nil, arith}
 use Rattle.std.specs.Prelude.{All, if◌then◌else◌}
+use Rattle.std.proofs.lemmas.List.{drop_more, drop_all}
 use Rattle.std.proofs.lemmas.List.Elements.{All-nil, All-push}
 use Rattle.alg_core.specs.Spaces.{SpaceOver}
 use Rattle.alg_core.specs.Vectors.{Vect}
 use Rattle.alg_core.specs.declared.term.Term.{Term}
 use Rattle.poly_module.specs.Combinations.{mark_value}
 use Rattle.poly_module.specs.SpaceVectors.{vector_of, vectors_of}
+use Rattle.module_groebner.proofs.Families.{map_append}
 use Rattle.secondary_gens.specs.Forms.{IsSmallForm}
 use Rattle.syzygy_kernel.specs.Kernels.{polynomial_of, fixed_values}
 use Rattle.syzygy_kernel.specs.declared.member.Member.{Member}
 
 abbrev Terms : Type 0
 Terms = List (Term ℕ (List ℕ))
-
-drop_at : {A : Type 0} (xs : List A) (i : ℕ) (x : A) → i < length xs → x ≡ get_or xs i x → drop i xs ≡ x ∷ drop (i + 1) xs
-drop_at [] i x h r = absurd (omega arith)
-drop_at (y ∷ xs) zero x h r = ap (λ z. z ∷ xs) (sym r)
-drop_at (y ∷ xs) (suc i) x h r = drop_at xs i x (omega arith) r
-
-drop_all : {A : Type 0} (xs : List A) (i : ℕ) → length xs ≤ i → drop i xs ≡ []
-drop_all [] zero h = refl
-drop_all [] (suc i) h = refl
-drop_all (x ∷ xs) zero h = absurd (omega arith)
-drop_all (x ∷ xs) (suc i) h = drop_all xs i (omega arith)
 
 module _ (S : SpaceOver ℕ) (θ : List (Vect S.field)) (ms : List (Member ℕ)) where
   abbrev n : ℕ
@@ -38,11 +29,11 @@ module _ (S : SpaceOver ℕ) (θ : List (Vect S.field)) (ms : List (Member ℕ))
   valued_start = record { forms = All-nil (IsSmallForm S); values = refl }
 
   pub valued_end : (i : ℕ) (fs : List Terms) → length ms ≤ i → Valued i fs → vectors_of S (λ m. m) fs ≡ fixed_values S.field (length S.weights) θ ms
-  valued_end i fs past was = sym (append-nil (vectors_of S (λ m. m) fs)) ∙ ap (λ l. vectors_of S (λ m. m) fs ++ fixed_values S.field (length S.weights) θ l) (sym (drop_all ms i past)) ∙ was.values
+  valued_end i fs past was = sym (append-nil (vectors_of S (λ m. m) fs)) ∙ ap (λ l. vectors_of S (λ m. m) fs ++ fixed_values S.field (length S.weights) θ l) (sym (drop_all i ms past)) ∙ was.values
 
   module _ (i : ℕ) (fs : List Terms) (was : Valued i fs) (m : Member ℕ) (below : i < length ms) (read : m ≡ get_or ms i m) where
     here : fixed_values S.field (length S.weights) θ (drop i ms) ≡ fixed_values S.field (length S.weights) θ (m ∷ drop (i + 1) ms)
-    here = ap (fixed_values S.field (length S.weights) θ) (drop_at ms i m below read)
+    here = ap (fixed_values S.field (length S.weights) θ) (drop_more ms i m below ∙ ap (λ x. x ∷ drop (i + 1) ms) (sym read))
 
     -- a member that is moved
     pub valued_past : m.is_fixed ≡ false → Valued (i + 1) fs
@@ -55,8 +46,8 @@ module _ (S : SpaceOver ℕ) (θ : List (Vect S.field)) (ms : List (Member ℕ))
     pub valued_more : m.is_fixed ≡ true → (f : Terms) (now : List Terms) → IsSmallForm S f → vector_of S (λ m. m) f ≡ mark_value S.field (length S.weights) θ (polynomial_of S.field m) → now ≡ fs ++ f ∷ [] → Valued (i + 1) now
     valued_more fixed f now small is pushed = subst (Valued (i + 1)) (sym pushed) (record {
       forms = All-push (IsSmallForm S) fs f was.forms small;
-      values = ap (λ vs. vs ++ fixed_values S.field (length S.weights) θ (drop (i + 1) ms)) (map-append (vector_of S (λ m. m)) fs (f ∷ []))
-          ∙ append-assoc (vectors_of S (λ m. m) fs) (vector_of S (λ m. m) f ∷ []) (fixed_values S.field (length S.weights) θ (drop (i + 1) ms))
+      values = ap (λ vs. vs ++ fixed_values S.field (length S.weights) θ (drop (i + 1) ms)) (map_append (vector_of S (λ m. m)) fs (f ∷ []))
+          ∙ append_assoc (vectors_of S (λ m. m) fs) (vector_of S (λ m. m) f ∷ []) (fixed_values S.field (length S.weights) θ (drop (i + 1) ms))
           ∙ ap (λ v. vectors_of S (λ m. m) fs ++ v ∷ fixed_values S.field (length S.weights) θ (drop (i + 1) ms)) is
           ∙ ap (λ vs. vectors_of S (λ m. m) fs ++ vs) (sym (here ∙ ap (λ (b : Bool). if b then mark_value S.field (length S.weights) θ (polynomial_of S.field m) ∷ fixed_values S.field (length S.weights) θ (drop (i + 1) ms) else fixed_values S.field (length S.weights) θ (drop (i + 1) ms)) fixed))
           ∙ was.values;

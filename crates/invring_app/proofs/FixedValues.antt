@@ -7,9 +7,10 @@ use Rattle.alg_core.specs.BlockOrder.{length_ones}
 use Rattle.alg_core.specs.Fields.{FieldOn, Has}
 use Rattle.alg_core.specs.Keys.{key}
 use Rattle.alg_core.specs.Monomials.{mono}
-use Rattle.alg_core.specs.PolynomialSpaces.{marked_space}
+use Rattle.alg_core.specs.PolynomialSpaces.{marked_space, plain_space}
+use Rattle.alg_core.proofs.PolynomialSpaces.{plain_constants}
 use Rattle.alg_core.specs.SpaceGrading.{degree, height}
-use Rattle.alg_core.specs.Spaces.{SpaceOver, Fits, entries}
+use Rattle.alg_core.specs.Spaces.{SpaceOver, Fits, IsPlace, entries}
 use Rattle.alg_core.specs.Vectors.{Entry, Vect}
 use Rattle.alg_core.specs.declared.term.Term.{Term}
 use Rattle.poly_module.specs.Combinations.{mark_value}
@@ -60,6 +61,7 @@ module _ (S : SpaceOver ℕ) (ds : List ℕ) where
 
   -- a form in the variables
   form_in : (d : ℕ) (f : Terms) → IsPoly M (λ m. m) f → InVariables S.field (length S.weights) (vector_of S (λ m. m) f) → IsHomogeneous M d (vector_of S (λ m. m) f) → IsForm S.field (unit_weights S) d (vector_of S (λ m. m) f)
+  unfolding height
   form_in d f h v homogeneous t c =
       let w = homogeneous_form M refl d (vector_of S (λ m. m) f) (is_polynomial M (λ m. m) f h) homogeneous t c in
       (w.0, sym (weight_variables (length S.weights) ds 0 t.1.0 (v t c)) ∙ w.1)
@@ -94,5 +96,8 @@ low_member M m h =
     let low = homogeneous.1 in
     record { poly = h.polynomial; low = λ t c. let d = homogeneous.2 t c in omega arith }
 
+plain_constants_in : (k : FieldOn ℕ) (n : ℕ) → HasPolynomials (plain_space k n)
+plain_constants_in k n = record { constants = subst (λ i. IsPlace (plain_space k n) (0, replicate i 0)) (sym (length_ones n)) (plain_constants k n) }
+
 pub plain_polynomials : (S : SpaceOver ℕ) → IsPlain S → HasPolynomials S
-plain_polynomials S h = subst HasPolynomials (sym (plain_is S h)) (plain_has_polynomials S.field (length S.weights))
+plain_polynomials S h = subst HasPolynomials (sym (plain_is S h)) (plain_constants_in S.field (length S.weights))

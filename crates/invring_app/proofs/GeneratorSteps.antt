@@ -22,11 +22,12 @@ Terms = List (Term ℕ (List ℕ))
 module _ (k : FieldOn ℕ) (n : ℕ) (θ : List (Vect k)) where
   fixed_length : (ms : List (Member ℕ)) → length (fixed_values k n θ ms) ≡ fixed_count ms
   fixed_length [] = refl
-  fixed_length (m ∷ ms) = by m.is_fixed
+  fixed_length (m ∷ ms) = by m.is_fixed (fixed_length ms)
     where
-      by : (b : Bool) → length (if b then mark_value k n θ (polynomial_of k m) ∷ fixed_values k n θ ms else fixed_values k n θ ms) ≡ (if b then suc (fixed_count ms) else fixed_count ms)
-      by true = ap suc (fixed_length ms)
-      by false = fixed_length ms
+      by : (b : Bool) → length (fixed_values k n θ ms) ≡ fixed_count ms
+          → length (if b then mark_value k n θ (polynomial_of k m) ∷ fixed_values k n θ ms else fixed_values k n θ ms) ≡ (if b then suc (fixed_count ms) else fixed_count ms)
+      by true e = ap suc e
+      by false e = e
 
 -- there is a combination for each monomial, or for each fixed member
 pub for_each : (S : SpaceOver ℕ) (p N cap : ℕ) (gens : List (Matrix ℕ)) (θ : List Terms) (B : List (List ℕ)) (fs : List Terms) (o : Option (List (Member ℕ))) → IsSourceOf S p N cap gens θ B fs o

@@ -8,7 +8,6 @@ ghost use Rattle.finite_certificate.specs.MarkSpaces.{mark_space};
 ghost use Rattle.primary_module.specs.PrimaryModules.{StandsOver};
 ghost use Rattle.matrix_group.specs.Actions.{IsSquare, Invariant};
 ghost use Rattle.module_groebner.specs.BasisBounds.{IsBasisBound};
-ghost use Rattle.module_groebner.specs.HomogeneousLists.{cap_limit};
 ghost use Rattle.module_groebner.specs.declared.bound.BasisBound.{BasisBound as Bound};
 ghost use Rattle.module_groebner.specs.declared.bound.BasisFault.TheVariants as faults;
 ghost use Rattle.module_groebner.specs.declared.bound.Which.TheVariants.{Graph};
@@ -109,7 +108,7 @@ pub(crate) fn kernel_values(
         All (IsSquare S.field (length S.weights)) gens.now }
     requires fixed { let S = space_over (⟦<PrimeField as Field>⟧.field) (⟦<Dp as TermOrder>⟧.order) space.now in
         All (Invariant S.field gens.now) (vectors_of S (λ m. m) primaries.now) }
-    requires cap { cap ≤ cap_limit }
+    requires cap { cap ≤ 1000 }
     ensures forms { IfOk result (λ k. All (IsSmallForm (space_over (⟦<PrimeField as Field>⟧.field) (⟦<Dp as TermOrder>⟧.order) space.now)) k.values.items) }
     ensures fixed { let S = space_over (⟦<PrimeField as Field>⟧.field) (⟦<Dp as TermOrder>⟧.order) space.now in
         IfOk result (λ k. All (λ f. Invariant S.field gens.now (vector_of S (λ m. m) f)) k.values.items) }

@@ -1,4 +1,4 @@
-use Rattle.std.proofs.Common.{ℕ, Err, ap, subst, sym}
+use Rattle.std.proofs.Common.{◌≡◌, ℕ, List, Err, length, ap, subst, sym, arith}
 use Rattle.std.specs.Prelude.{All}
 use Rattle.alg_core.specs.Spaces.{SpaceOver}
 use Rattle.finite_certificate.specs.MarkSpaces.{mark_space}
@@ -7,6 +7,8 @@ use Rattle.prime_field.specs.declared.gfp.PrimeField.{PrimeField}
 use Rattle.alg_core.specs.declared.block_order.BlockOrder.{BlockOrder}
 use Rattle.alg_core.specs.declared.space.Space.{Space}
 use Rattle.module_groebner.specs.declared.bound.BasisFault.TheVariants.{Above}
+use Rattle.poly_module.specs.SpaceVectors.{vectors_of}
+use Rattle.syzygy_kernel.specs.Kernels.{fixed_values}
 use Rattle.syzygy_kernel.specs.declared.member.Member.{Member}
 use Rattle.invring_app.specs.KernelValues.{IsSmallMember}
 use Rattle.invring_app.proofs.AverageSteps.{told}
@@ -38,25 +40,25 @@ pub returns-in_err-members-clause-above : goal.returns-in_err-members-clause-abo
 returns-in_err-members-clause-above c = λ b e.
     let o = c.args.over.now in
     above_to (space_of c.args.space.now) (marked o.space) o.space.order.vars o.space.order.weights.items c.args.primaries.now o.free_module c.requires.free c.args.gens.now c.args.cap b
-    (c.in_err-members.ensures.above b (ap Err (told c.from_residual-in_err-members.result c.in_err-members.field-0.0 c.from_residual-in_err-members.ensures.1 (Above b) e)))
+    (c.in_err-members.ensures.above b (ap Err (told c.from_residual.result c.in_err-members.field-0.0 c.from_residual.ensures.1 (Above b) e)))
 
 pub returns-clause-evidence : goal.returns-clause-evidence
 returns-clause-evidence c =
     let o = c.args.over.now in
     let made = c.in_ok-members.ensures in
     fixed_by (space_of c.args.space.now) (marked o.space) o.space.order.vars o.space.order.weights.items c.args.primaries.now o.free_module c.requires.free c.args.gens.now c.args.cap c.in_ok-members.members.items c.in_ok-values.values.items
-    made.polynomials made.kernel made.within c.in_ok-values.ensures.values
+    made.polynomials made.kernel made.within (subst (λ (ms : List (Member ℕ)). vectors_of (space_of c.args.space.now) (λ m. m) c.in_ok-values.values.items ≡ fixed_values (space_of c.args.space.now).field (length (space_of c.args.space.now).weights) (vectors_of (space_of c.args.space.now) (λ m. m) o.free_module.theta) ms) c.deref.ensures.value c.in_ok-values.ensures.values)
 
 pub returns-clause-complete : goal.returns-clause-complete
 returns-clause-complete c =
     let o = c.args.over.now in
     let made = c.in_ok-members.ensures in
     complete_by (space_of c.args.space.now) (marked o.space) o.space.order.vars o.space.order.weights.items c.args.primaries.now o.free_module c.requires.free c.args.gens.now c.args.cap c.in_ok-members.members.items c.in_ok-values.values.items
-    made.polynomials made.kernel made.within c.in_ok-values.ensures.values c.requires.square c.requires.fixed
+    made.polynomials made.kernel made.within (subst (λ (ms : List (Member ℕ)). vectors_of (space_of c.args.space.now) (λ m. m) c.in_ok-values.values.items ≡ fixed_values (space_of c.args.space.now).field (length (space_of c.args.space.now).weights) (vectors_of (space_of c.args.space.now) (λ m. m) o.free_module.theta) ms) c.deref.ensures.value c.in_ok-values.ensures.values) c.requires.square c.requires.fixed
 
 pub returns-clause-fixed : goal.returns-clause-fixed
 returns-clause-fixed c =
     let o = c.args.over.now in
     let made = c.in_ok-members.ensures in
     invariant_by (space_of c.args.space.now) (marked o.space) o.space.order.vars o.space.order.weights.items c.args.primaries.now o.free_module c.requires.free c.args.gens.now c.args.cap c.in_ok-members.members.items c.in_ok-values.values.items
-    made.polynomials made.kernel made.within c.in_ok-values.ensures.values c.requires.square c.requires.fixed
+    made.polynomials made.kernel made.within (subst (λ (ms : List (Member ℕ)). vectors_of (space_of c.args.space.now) (λ m. m) c.in_ok-values.values.items ≡ fixed_values (space_of c.args.space.now).field (length (space_of c.args.space.now).weights) (vectors_of (space_of c.args.space.now) (λ m. m) o.free_module.theta) ms) c.deref.ensures.value c.in_ok-values.ensures.values) c.requires.square c.requires.fixed
