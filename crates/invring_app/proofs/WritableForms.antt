@@ -38,7 +38,7 @@ module _ {E : Type 0} (S : SpaceOver E) where
   abbrev x : List Terms → List (Vect S.field)
   x vs = vectors_of S (λ m. m) vs
 
-  small_polys : (ps : List Terms) → All (IsSmallForm S) ps → ArePolys S (λ m. m) ps
+  pub small_polys : (ps : List Terms) → All (IsSmallForm S) ps → ArePolys S (λ m. m) ps
   small_polys ps h i d l = (h i d l).polynomial
 
   -- invariants are combinations
