@@ -136,10 +136,10 @@ module _ (k : FieldOn ℕ) (p : ℕ) (names : List (List ℕ)) (gens : List (Mat
 
     -- a line of the kernel, and the forms of those after it
     abbrev Line-is : Terms → Option (Comb ℕ) → Type 0
-    Line-is u o = IfSome o (λ y. IsPrinted k c (mark_value k m (x θ) (vector_of U (λ v. v) u)) y × IsVector (combined k c) (λ v. v) y.vector)
+    Line-is u y = IfSome y (λ y. IsPrinted k gens c (mark_value k m (x θ) (vector_of U (λ v. v) u)) y × IsVector (combined k c) (λ v. v) y.vector)
 
-    pub record Line-and (u : Terms) (o : Option (Comb ℕ)) (ys : List (Line ℕ)) : Type 0 where
-      pub line : Line-is u o
+    pub record Line-and (u : Terms) (comb : Option (Comb ℕ)) (ys : List (Line ℕ)) : Type 0 where
+      pub line : Line-is u comb
       pub later : List Terms
       pub values : x later ≡ fixed_values k m (x θ) (members ys)
       pub combinations : Each (λ f y. IsCombined U θ T f (Some y)) later (combinations_in ys)
@@ -151,7 +151,7 @@ module _ (k : FieldOn ℕ) (p : ℕ) (names : List (List ℕ)) (gens : List (Mat
     line-at u (Some y) ys (f ∷ gs) e h =
         let first : vector_of U (λ v. v) f ≡ mark_value k m (x θ) (vector_of U (λ v. v) u) = cc in
         let rest : x gs ≡ fixed_values k m (x θ) (members ys) = cc in
-        record { line = (subst (λ w. IsPrinted k c w y) first h.0.printed, h.0.fits); later = gs; values = rest; combinations = h.1 }
+        record { line = (subst (λ w. IsPrinted k gens c w y) first h.0.printed, h.0.fits); later = gs; values = rest; combinations = h.1 }
 
     lines-at : (ys : List (Line ℕ)) (gs : List Terms) → x gs ≡ fixed_values k m (x θ) (members ys) → Each (λ f y. IsCombined U θ T f (Some y)) gs (combinations_in ys) → All (λ l. Line-is l.u l.comb) ys
     lines-at [] gs e h = All-nil (λ (l : Line ℕ). Line-is l.u l.comb)
@@ -159,7 +159,7 @@ module _ (k : FieldOn ℕ) (p : ℕ) (names : List (List ℕ)) (gens : List (Mat
         let r = line-at l.u l.comb ys gs e h in
         All-cons (λ (l : Line ℕ). Line-is l.u l.comb) l ys r.line (lines-at ys r.later r.values r.combinations)
 
-    fixed-line : (u : Terms) (o : Option (Comb ℕ)) → Line-is u o → IfSome o (IsPrinted k c (mark_value k m (x θ) (vector_of U (λ v. v) u)))
+    fixed-line : (u : Terms) (o : Option (Comb ℕ)) → Line-is u o → IfSome o (IsPrinted k gens c (mark_value k m (x θ) (vector_of U (λ v. v) u)))
     fixed-line u None h = tt
     fixed-line u (Some y) h = h.0
 

@@ -41,9 +41,9 @@ pub(crate) fn certificate(
     let ranked = rank_script(alloc, &script, limits)?;
     let images = images_of(alloc, &script, &ranked, averaging, order, limits)?;
     let made = generators_of(alloc, &script, &ranked, images, order, limits)?;
-    let free_module = ranked.over.free_module;
-    let rank = free_module.monomials().len() as u64;
-    let lifts = copies(alloc, free_module.lifts())?;
+    let over = ranked.over;
+    let rank = over.free_module.monomials().len() as u64;
+    let lifts = copies(alloc, over.free_module.lifts())?;
     Ok(Certificate {
         characteristic: script.characteristic,
         names: script.names,
@@ -51,7 +51,7 @@ pub(crate) fn certificate(
         order,
         primaries: ranked.primaries,
         lifts,
-        powers: ranked.over.powers,
+        powers: over.powers,
         rank,
         secondaries: made.secondaries,
         evidence: made.evidence,

@@ -47,12 +47,12 @@ returns-in_err-group-clause-fault c =
     let l = c.args.limits.now in
     let g = c.field_of-field.result in
     let e = c.in_err-group.field-0.0 in
-    handed-on (IsRingTold (problem_in script) l) c.from_residual-in_err-group.result (fault_of_group e) c.from_residual-in_err-group.ensures.1
+    handed-on (IsRingTold (problem_in script) l) c.from_residual.result (fault_of_group e) c.from_residual.ensures.1
     (group_told (problem_in script) l e (over_is script (gfp g.p g.listed) c.deref.result.now c.requires.sound c.field_of-field.ensures.is c.deref.ensures.value l.max_order e
     (λ counted is. c.in_err-group.ensures.bound counted (ap Err is))))
 
-pub of-requires : goal.of-requires
-of-requires c =
+pub of-averaging-requires : goal.of-averaging-requires
+of-averaging-requires c =
     let g = c.field_of-field.result in
     let made = c.in_ok-group.ensures in
     let k = gfp g.p g.listed in
@@ -67,27 +67,27 @@ pub rank_script-requires-clause-group : goal.rank_script-requires-clause-group
 rank_script-requires-clause-group c =
     let g = c.field_of-field.result in
     let made = c.in_ok-group.ensures in
-    (c.order.result, grouped c.args.script c.requires.sound (gfp g.p g.listed) c.field_of-field.ensures.is c.deref.result.now c.deref.ensures.value c.in_ok-group.group made.elements c.order.result c.order.ensures.is c.args.limits.now made.within)
+    (c.order-order.result, grouped c.args.script c.requires.sound (gfp g.p g.listed) c.field_of-field.ensures.is c.deref.result.now c.deref.ensures.value c.in_ok-group.group made.elements c.order-order.result c.order-order.ensures.is c.args.limits.now made.within)
 
 pub images_of-requires-clause-group : goal.images_of-requires-clause-group
 images_of-requires-clause-group c =
     let g = c.field_of-field.result in
     let made = c.in_ok-group.ensures in
-    grouped c.args.script c.requires.sound (gfp g.p g.listed) c.field_of-field.ensures.is c.deref.result.now c.deref.ensures.value c.in_ok-group.group made.elements c.order.result c.order.ensures.is c.args.limits.now made.within
+    grouped c.args.script c.requires.sound (gfp g.p g.listed) c.field_of-field.ensures.is c.deref.result.now c.deref.ensures.value c.in_ok-group.group made.elements c.order-order.result c.order-order.ensures.is c.args.limits.now made.within
 
 pub images_of-requires-clause-averaging : goal.images_of-requires-clause-averaging
 images_of-requires-clause-averaging c =
     let g = c.field_of-field.result in
     let made = c.in_ok-group.ensures in
     let of = c.of-averaging.ensures in
-    averaging_of c.args.script c.requires.sound (gfp g.p g.listed) c.field_of-field.ensures.is c.deref.result.now c.deref.ensures.value c.in_ok-group.group made.elements c.order.result c.order.ensures.is
+    averaging_of c.args.script c.requires.sound (gfp g.p g.listed) c.field_of-field.ensures.is c.deref.result.now c.deref.ensures.value c.in_ok-group.group made.elements c.order-order.result c.order-order.ensures.is
     c.of-averaging.result (field_number c.args.script.characteristic g.p g.listed c.field_of-field.ensures.is) made.size of.none of.some of.elements
 
 pub generators_of-requires-clause-group : goal.generators_of-requires-clause-group
 generators_of-requires-clause-group c =
     let g = c.field_of-field.result in
     let made = c.in_ok-group.ensures in
-    grouped c.args.script c.requires.sound (gfp g.p g.listed) c.field_of-field.ensures.is c.deref.result.now c.deref.ensures.value c.in_ok-group.group made.elements c.order.result c.order.ensures.is c.args.limits.now made.within
+    grouped c.args.script c.requires.sound (gfp g.p g.listed) c.field_of-field.ensures.is c.deref.result.now c.deref.ensures.value c.in_ok-group.group made.elements c.order-order.result c.order-order.ensures.is c.args.limits.now made.within
 
 pub returns-in_err-ranked-clause-fault : goal.returns-in_err-ranked-clause-fault
 returns-in_err-ranked-clause-fault c =
@@ -110,8 +110,8 @@ returns-clause-certificate c =
     let made = c.in_ok-made.made in
     let same = subst (λ ls. map (entries (λ m. m)) c.in_ok-lifts.lifts.items ≡ map (entries (λ m. m)) ls) c.lifts.ensures.is c.in_ok-lifts.ensures.same in
     certificate_of c.args.script c.requires.sound c.args.limits.now (space_of r.space) r.primaries.items (marked r.over.space) r.over.space.order.vars r.over.space.order.weights.items r.over.free_module r.over.powers.items c.in_ok-ranked.ensures.is
-    c.order.result (grouped c.args.script c.requires.sound (gfp g.p g.listed) c.field_of-field.ensures.is c.deref.result.now c.deref.ensures.value c.in_ok-group.group group.elements c.order.result c.order.ensures.is c.args.limits.now group.within)
-    i.images.items _ c.in_ok-images.ensures.generating made.secondaries.items _ made.irreducibles.items made.words.items c.in_ok-made.ensures.parts c.in_ok-lifts.lifts.items same _ (ap length c.monomials-monomials.ensures.is)
+    c.order-order.result (grouped c.args.script c.requires.sound (gfp g.p g.listed) c.field_of-field.ensures.is c.deref.result.now c.deref.ensures.value c.in_ok-group.group group.elements c.order-order.result c.order-order.ensures.is c.args.limits.now group.within)
+    i.images.items _ c.in_ok-images.ensures.generating made.secondaries.items _ made.irreducibles.items made.words.items c.in_ok-made.ensures.parts c.in_ok-lifts.lifts.items same _ (ap length c.monomials.ensures.is)
 
 pub returns-clause-printable : goal.returns-clause-printable
 returns-clause-printable c = let made = returns-clause-certificate c in printable_is made.field _ made.matrices made.well_formed
