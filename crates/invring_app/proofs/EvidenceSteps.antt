@@ -1,5 +1,5 @@
 -- The lines of kernel evidence, one after another: each fixed member takes the next combination.
-use Rattle.std.proofs.Common.{◌≡◌, ◌∙◌, ◌+◌, ◌<◌, ◌≤◌, ℕ, zero, suc, Bool, true, false, List, [], ◌∷◌, ◌++◌, Option, None, Some, length, map, refl, sym, ap, ap₂, subst, append_assoc, append-nil, arith}
+use Rattle.std.proofs.Common.{◌≡◌, ◌∙◌, ◌+◌, ◌<◌, ℕ, suc, Bool, true, false, List, [], ◌∷◌, ◌++◌, Option, None, Some, length, refl, sym, ap, ap₂, subst, append_assoc, append-nil, arith}
 use Rattle.std.specs.Prelude.{is_some, option_to_list, if◌then◌else◌}
 use Rattle.module_groebner.proofs.Families.{map_append}
 use Rattle.poly_module.specs.declared.vector.Comb.{Comb}

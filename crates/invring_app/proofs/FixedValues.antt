@@ -1,17 +1,16 @@
 -- The values of the fixed members of a kernel, as polynomials in the variables alone.
-use Rattle.std.proofs.Common.{◌≡◌, ◌∙◌, ◌+◌, ◌<◌, ◌≤◌, ℕ, zero, suc, Bool, true, false, List, [], ◌∷◌, ◌++◌, length, map, drop, get_or, replicate, refl, sym, ap, ap₂, subst, arith}
-use Rattle.std.specs.Prelude.{All, if◌then◌else◌}
+use Rattle.std.proofs.Common.{◌≡◌, ◌∙◌, ◌+◌, ◌≤◌, ℕ, List, [], ◌∷◌, length, replicate, refl, sym, ap, subst, arith}
+use Rattle.std.specs.Prelude.{All}
 use Rattle.std.proofs.lemmas.List.{length-append}
-use Rattle.std.proofs.lemmas.List.Elements.{All-nil, All-cons, All-push}
+use Rattle.std.proofs.lemmas.List.Elements.{All-nil, All-cons}
 use Rattle.alg_core.specs.BlockOrder.{length_ones}
 use Rattle.alg_core.specs.Fields.{FieldOn, Has}
 use Rattle.alg_core.specs.Keys.{key}
-use Rattle.alg_core.specs.Monomials.{mono}
 use Rattle.alg_core.specs.PolynomialSpaces.{marked_space, plain_space}
 use Rattle.alg_core.proofs.PolynomialSpaces.{plain_constants}
-use Rattle.alg_core.specs.SpaceGrading.{degree, height}
+use Rattle.alg_core.specs.SpaceGrading.{height}
 use Rattle.alg_core.specs.Spaces.{SpaceOver, Fits, IsPlace, entries}
-use Rattle.alg_core.specs.Vectors.{Entry, Vect}
+use Rattle.alg_core.specs.Vectors.{Entry}
 use Rattle.alg_core.specs.declared.term.Term.{Term}
 use Rattle.poly_module.specs.Combinations.{mark_value}
 use Rattle.poly_module.specs.Degrees.{IsHomogeneous}
@@ -25,7 +24,6 @@ use Rattle.poly_module.proofs.SpaceVectorLaws.{is_polynomial}
 use Rattle.finite_certificate.proofs.ModuleTerms.{weight_variables}
 use Rattle.primary_module.specs.PrimaryModules.{IsLowPoly}
 use Rattle.secondary_gens.specs.Forms.{unit_weights, IsSmallForm}
-use Rattle.syzygy_kernel.specs.Kernels.{polynomial_of, fixed_values}
 use Rattle.syzygy_kernel.specs.declared.member.Member.{Member}
 use Rattle.invring_app.specs.FoundPrimaries.{IsPlain, IsMarkedBeside}
 use Rattle.invring_app.specs.WiderTerms.{AreNarrow}

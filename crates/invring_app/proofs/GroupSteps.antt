@@ -10,7 +10,7 @@ use Rattle.matrix_group.specs.Groups.{cells_of, size, AreElements}
 use Rattle.reynolds_op.specs.Averages.{Averaging, IsAveraging}
 use Rattle.finvar_text.specs.Problems.{problem_in, IsSound}
 use Rattle.finvar_text.specs.declared.script.Script.{Script}
-use Rattle.invring_app.specs.AveragedGroups.{AveragesOver, IsAveragingOf}
+use Rattle.invring_app.specs.AveragedGroups.{IsAveragingOf}
 use Rattle.invring_app.specs.Commands.Rings.{IsGrouped}
 use Rattle.invring_app.proofs.OrderLaws.{order_is}
 

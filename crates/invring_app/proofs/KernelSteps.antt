@@ -17,7 +17,7 @@ use Rattle.primary_module.specs.PrimaryModules.{Primaries, StandsOver}
 use Rattle.secondary_gens.specs.Forms.{degrees_of}
 use Rattle.secondary_gens.specs.Secondaries.{IsComplete}
 use Rattle.syzygy_kernel.specs.Graphs.{InGraph, graph_space}
-use Rattle.syzygy_kernel.specs.Kernels.{AreKernel, fixed_values, polynomial_of}
+use Rattle.syzygy_kernel.specs.Kernels.{AreKernel, fixed_values}
 use Rattle.syzygy_kernel.specs.declared.member.Member.{Member}
 use Rattle.syzygy_kernel.proofs.FixedMembers.{values_invariant, values_complete}
 use Rattle.invring_app.specs.FoundPrimaries.{IsFreeOver}

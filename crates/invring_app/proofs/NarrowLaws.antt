@@ -3,8 +3,8 @@ use Rattle.std.proofs.Common.{◌≡◌, ◌∙◌, ◌+◌, ◌<◌, ◌≤◌,
 use Rattle.std.specs.Prelude.{◌⊎◌, All}
 use Rattle.std.proofs.lemmas.List.{map-append, take_more}
 use Rattle.std.proofs.lemmas.List.Elements.{All-append, All-cons, All-nil}
-use Rattle.alg_core.specs.Fields.{FieldOn, Has}
-use Rattle.alg_core.specs.Keys.{TermPlace, key}
+use Rattle.alg_core.specs.Fields.{Has}
+use Rattle.alg_core.specs.Keys.{key}
 use Rattle.alg_core.specs.Lists.{In, map_in}
 use Rattle.alg_core.specs.Monomials.{exponent, mono, mono_ext, exponent_mono}
 use Rattle.alg_core.specs.Spaces.{SpaceOver, IsPlace, entry, entries}
@@ -12,7 +12,7 @@ use Rattle.alg_core.specs.Vectors.{Entry, plus}
 use Rattle.alg_core.specs.declared.term.Term.{Term}
 use Rattle.alg_core.proofs.MonomialLists.{exponent_past}
 use Rattle.poly_module.proofs.ConstantSteps.{polynomial_place}
-use Rattle.poly_module.specs.SpaceVectors.{HasPolynomials, ArePlaced, IsVectorOf, IsPolyOf, vector_of}
+use Rattle.poly_module.specs.SpaceVectors.{HasPolynomials, IsVectorOf, IsPolyOf, vector_of}
 use Rattle.poly_module.proofs.ExponentBounds.{vec_supp}
 use Rattle.poly_module.proofs.SpaceVectorLaws.{poly_given}
 use Rattle.module_groebner.proofs.Families.{all_in, in_get}

@@ -13,7 +13,7 @@ use Rattle.poly_module.specs.SpaceVectors.{vector_of, vectors_of}
 use Rattle.lin_algebra.specs.declared.matrix.Matrix.{Matrix}
 use Rattle.matrix_group.specs.Actions.{IsSquare, Invariant}
 use Rattle.matrix_group.specs.Groups.{cells_of, size, AreElements, IsOrder}
-use Rattle.reynolds_op.specs.Averages.{Averaging, AveragesOn, IsAveraging, reynolds}
+use Rattle.reynolds_op.specs.Averages.{Averaging, IsAveraging, reynolds}
 use Rattle.module_groebner.specs.BasisBounds.{IsBasisBound}
 use Rattle.module_groebner.specs.declared.bound.BasisBound.{BasisBound as Bound}
 use Rattle.module_groebner.specs.declared.bound.Which.TheVariants.{Graph}
@@ -143,6 +143,7 @@ module _ (script : Script) (sound : IsSound script) (l : Limits) (S : SpaceOver 
         standard = r.over.standard;
         small = r.over.small;
       }
+
   -- the averages generate, and so do the values of the fixed members
   pub averages_generate : (R : Averaging ℕ) → AveragesOver (problem_in script) script.gens.items N R → (fs : List Terms) → All (IsSmallForm S) fs
       → Each (λ b f. vector_of S (λ m. m) f ≡ reynolds S.field (size R.elements) R (single_vector S.field (0, mono b))) P.monomials fs → AreGenerating S script.characteristic N l.max_basis script.gens.items θ P.monomials fs None

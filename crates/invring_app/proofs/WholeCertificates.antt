@@ -1,6 +1,5 @@
 -- The certificate of a sound script, from its parts.
 use Rattle.std.proofs.Common.{◌≡◌, ℕ, List, Option, map, length, refl, sym, subst}
-use Rattle.std.specs.Prelude.{All}
 use Rattle.alg_core.specs.PolynomialSpaces.{marked_space}
 use Rattle.alg_core.specs.Spaces.{SpaceOver, entries}
 use Rattle.alg_core.specs.declared.limits.Limits.{Limits}

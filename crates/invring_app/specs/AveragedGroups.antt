@@ -3,7 +3,7 @@
 --   AveragesOver q gens N R     the elements of R are those of the group that the generators gens of the problem q generate, N in number;
 --                               the characteristic does not divide N, and R averages over them
 --   IsAveragingOf q gens N o    o averages over this group, or where it is none the characteristic divides N
-use Rattle.std.specs.Prelude.{◌≡◌, ℕ, List, Option, None, Some, length}
+use Rattle.std.specs.Prelude.{◌≡◌, ℕ, List, Option, None, Some}
 use Rattle.std.specs.Int.{◌∣◌}
 use Rattle.alg_core.specs.Fields.{FieldOn}
 use Rattle.prime_field.specs.PrimeFields.{IsPrimeField}

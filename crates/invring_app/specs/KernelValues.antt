@@ -1,7 +1,6 @@
 -- Members of kernel evidence whose values are of small degrees.
 --
 --   IsSmallMember S m    the member m of the kernel has the terms of a homogeneous polynomial over the space S, of degree at most 1000
-use Rattle.std.specs.Prelude.{ℕ}
 use Rattle.module_groebner.specs.HomogeneousLists.{IsHomogeneousUpTo}
 use Rattle.poly_module.specs.SpaceVectors.{IsPoly, vector_of}
 use Rattle.alg_core.specs.Spaces.{SpaceOver}

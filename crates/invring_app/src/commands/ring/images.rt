@@ -71,7 +71,12 @@ pub(crate) fn images_of<'g>(
             members: Some(kernel.members),
         });
     };
-    let images = averages(alloc, &ranked.space, &averaging, over.free_module.monomials())?;
+    let images = averages(
+        alloc,
+        &ranked.space,
+        &averaging,
+        over.free_module.monomials(),
+    )?;
     Ok(Images {
         images,
         members: None,

@@ -15,8 +15,8 @@ use crate::field::field_of;
 use alg_core::{Dp, Field, Limits, Space, TermOrder};
 use finvar_text::Script;
 use poly_module::Poly;
-use prime_field::PrimeField;
 use primary_search::search;
+use prime_field::PrimeField;
 use std::alloc::Global;
 
 /// The space of a script, its primary invariants, and the polynomials as a free module over them.

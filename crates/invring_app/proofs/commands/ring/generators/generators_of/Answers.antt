@@ -1,12 +1,10 @@
-use Rattle.std.proofs.Common.{◌≡◌, ◌∙◌, ℕ, Err, Vec, length, ap, subst, sym}
+use Rattle.std.proofs.Common.{◌∙◌, ℕ, Err, Vec, length, ap, subst, sym}
 use Rattle.std.specs.Global.{Global}
 use Rattle.std.specs.Prelude.{All}
 use Rattle.std.specs.Option.{option_map}
 use Rattle.alg_core.specs.Binomials.{monomials_of_degree}
 use Rattle.alg_core.specs.Spaces.{SpaceOver}
-use Rattle.alg_core.specs.declared.term.Term.{Term}
 use Rattle.poly_module.specs.SpaceVectors.{vector_of, vectors_of}
-use Rattle.lin_algebra.specs.declared.matrix.Matrix.{Matrix}
 use Rattle.matrix_group.specs.Actions.{IsSquare, Invariant}
 use Rattle.finvar_text.specs.Problems.{problem_in}
 use Rattle.finite_certificate.specs.MarkSpaces.{mark_space}
@@ -15,19 +13,17 @@ use Rattle.prime_field.specs.declared.gfp.PrimeField.{PrimeField}
 use Rattle.alg_core.specs.declared.block_order.BlockOrder.{BlockOrder}
 use Rattle.alg_core.specs.declared.space.Space.{Space}
 use Rattle.secondary_gens.specs.Forms.{IsSmallForm, IsPositiveForm}
-use Rattle.secondary_gens.specs.Lists.{Each}
 use Rattle.secondary_gens.specs.Secondaries.{AreSecondaries, IsComplete, IsFirstPast, IsPastBound}
 use Rattle.syzygy_kernel.specs.declared.member.Member.{Member}
 use Rattle.certificate_io.specs.Certificates.{evidence_of}
 use Rattle.invring_app.specs.EvidenceLines.{ForEach, IsEvidenceWith}
 use Rattle.invring_app.specs.Faults.{fault_of_space}
-use Rattle.invring_app.specs.GeneratingParts.{AreGenerating}
 use Rattle.invring_app.specs.RingFaults.{IsRingTold}
 use Rattle.invring_app.specs.WrittenParts.{AreWritable, AreWritten}
 use Rattle.invring_app.proofs.FaultLaws.{handed-on}
 use Rattle.invring_app.proofs.FixedValues.{plain_polynomials}
 use Rattle.invring_app.proofs.GeneratorSteps.{for_each}
-use Rattle.invring_app.proofs.RankedSteps.{square_in, fixed_primaries, fixed_terms, image_fault, kept_of}
+use Rattle.invring_app.proofs.RankedSteps.{square_in, fixed_terms, image_fault, kept_of}
 use Rattle.invring_app.proofs.RingSteps.{space_of, image_told}
 use Rattle.invring_app.proofs.WritableForms.{each_length, small_polys, writable}
 use Rattle.invring_app.proofs.commands.ring.generators.generators_of.Goals as goal
@@ -138,8 +134,8 @@ returns-clause-parts c =
     let o = option_map (λ (v : Vec (Member ℕ) Global). v.items) c.args.images.members in
     let e = evidence_of c.in_ok-evidence.evidence in
     let made = subst (λ ps. AreWritten S ps c.args.images.images.items T w.combs.items w.irreducibles.items w.words.items) c.as_slice-theta.ensures.value
-      (subst (λ fs. AreWritten S c.as_slice-theta.result.now fs T w.combs.items w.irreducibles.items w.words.items) c.as_slice-forms.ensures.value
-      (subst (λ ts. AreWritten S c.as_slice-theta.result.now c.as_slice-forms.result.now ts w.combs.items w.irreducibles.items w.words.items) c.as_slice.ensures.value c.in_ok-written.ensures.are)) in
+    (subst (λ fs. AreWritten S c.as_slice-theta.result.now fs T w.combs.items w.irreducibles.items w.words.items) c.as_slice-forms.ensures.value
+    (subst (λ ts. AreWritten S c.as_slice-theta.result.now c.as_slice-forms.result.now ts w.combs.items w.irreducibles.items w.words.items) c.as_slice.ensures.value c.in_ok-written.ensures.are)) in
     record {
       polynomials = small_polys S T c.in_ok-secondaries.ensures.forms;
       secondaries = subst (λ gs. AreSecondaries S gs (x r.primaries.items) (x T)) c.deref.ensures.value

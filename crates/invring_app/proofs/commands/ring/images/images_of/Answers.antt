@@ -1,9 +1,8 @@
-use Rattle.std.proofs.Common.{◌≡◌, ℕ, Err, Some, None, length, ap, subst, sym}
+use Rattle.std.proofs.Common.{◌≡◌, ℕ, Err, length, ap, subst, sym}
 use Rattle.std.specs.Prelude.{All}
 use Rattle.alg_core.specs.Monomials.{mono}
 use Rattle.poly_module.specs.Polynomials.{single_vector}
 use Rattle.poly_module.specs.SpaceVectors.{vector_of, vectors_of}
-use Rattle.lin_algebra.specs.declared.matrix.Matrix.{Matrix}
 use Rattle.matrix_group.specs.Actions.{IsSquare, Invariant}
 use Rattle.module_groebner.specs.BasisBounds.{IsBasisBound}
 use Rattle.module_groebner.specs.declared.bound.Which.TheVariants.{Graph}
@@ -15,7 +14,7 @@ use Rattle.prime_field.specs.declared.gfp.PrimeField.{PrimeField}
 use Rattle.alg_core.specs.declared.block_order.BlockOrder.{BlockOrder}
 use Rattle.alg_core.specs.declared.space.Space.{Space}
 use Rattle.matrix_group.specs.Groups.{size}
-use Rattle.reynolds_op.specs.Averages.{AveragesOn, reynolds}
+use Rattle.reynolds_op.specs.Averages.{reynolds}
 use Rattle.secondary_gens.specs.Forms.{degrees_of}
 use Rattle.secondary_gens.specs.Lists.{Each}
 use Rattle.secondary_gens.specs.Secondaries.{IsComplete}
@@ -101,7 +100,7 @@ averages-requires-clause-averaging c =
     let S = space_of r.space in
     let R = c.in-Some.averaging in
     let given = averaged_of script c.requires.sound c.args.limits.now S r.primaries.items (marked r.over.space) r.over.space.order.vars r.over.space.order.weights.items r.over.free_module r.over.powers.items c.requires.ranked c.args.order c.requires.group R
-      (subst (IsAveragingOf (problem_in script) script.gens.items c.args.order) c.in-Some.is c.requires.averaging) in
+    (subst (IsAveragingOf (problem_in script) script.gens.items c.args.order) c.in-Some.is c.requires.averaging) in
     given.averages
 
 pub averages-requires-clause-polynomials : goal.averages-requires-clause-polynomials

@@ -1,4 +1,4 @@
-use Rattle.std.proofs.Common.{◌≡◌, ℕ, List, Err, length, ap, subst, sym, arith}
+use Rattle.std.proofs.Common.{◌≡◌, ℕ, List, Err, length, ap, subst, sym}
 use Rattle.std.specs.Prelude.{All}
 use Rattle.alg_core.specs.Spaces.{SpaceOver}
 use Rattle.finite_certificate.specs.MarkSpaces.{mark_space}

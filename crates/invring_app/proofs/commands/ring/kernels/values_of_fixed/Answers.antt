@@ -7,7 +7,7 @@ use Rattle.finite_certificate.specs.MarkSpaces.{mark_space}
 use Rattle.prime_field.specs.PrimeFields.{gfp}
 use Rattle.prime_field.specs.declared.gfp.PrimeField.{PrimeField}
 use Rattle.invring_app.specs.KernelValues.{IsSmallMember}
-use Rattle.invring_app.proofs.FixedSteps.{Valued, valued_past, valued_more, valued_start, valued_end}
+use Rattle.invring_app.proofs.FixedSteps.{Valued, valued_past, valued_more, valued_end}
 use Rattle.invring_app.proofs.WiderLaws.{given_member}
 use Rattle.invring_app.proofs.commands.ring.kernels.values_of_fixed.Goals as goal
 use Rattle.invring_app.proofs.commands.ring.kernels.values_of_fixed.Goals.{then-member+in_ok-value_of+in_ok-push, else-member}
@@ -21,12 +21,12 @@ loop-i-preserved c =
     let S = over (λ (f : PrimeField). gfp f.p f.listed) (λ (o : Dp). dp_order o.weights.items) c.args.space.now in
     let θ = vectors_of S (λ m. m) c.args.free_module.now.theta in
     elim c.if-member.branch [
-      then-member+in_ok-value_of+in_ok-push w ↦
-        valued_more S θ c.args.members.now c.loop-i.i c.loop-i.values.items c.loop-i.invariant c.index-members-i.result c.loop-i-test.true c.index-members-i.is w.if-member.true w.in_ok-value_of.field-0 c.if-member.values.items
-        w.in_ok-value_of.ensures.form w.in_ok-value_of.ensures.value ((λ i. (w.values-is i).items) ∙ w.in_ok-push.ensures.items)
-    | else-member w ↦
-        subst (Valued S θ c.args.members.now (c.loop-i.i + 1)) (sym (λ i. (w.values-is i).items))
-        (valued_past S θ c.args.members.now c.loop-i.i c.loop-i.values.items c.loop-i.invariant c.index-members-i.result c.loop-i-test.true c.index-members-i.is w.if-member.false)
+      | then-member+in_ok-value_of+in_ok-push w ↦
+          valued_more S θ c.args.members.now c.loop-i.i c.loop-i.values.items c.loop-i.invariant c.index-members-i.result c.loop-i-test.true c.index-members-i.is w.if-member.true w.in_ok-value_of.field-0 c.if-member.values.items
+          w.in_ok-value_of.ensures.form w.in_ok-value_of.ensures.value ((λ i. (w.values-is i).items) ∙ w.in_ok-push.ensures.items)
+      | else-member w ↦
+          subst (Valued S θ c.args.members.now (c.loop-i.i + 1)) (sym (λ i. (w.values-is i).items))
+          (valued_past S θ c.args.members.now c.loop-i.i c.loop-i.values.items c.loop-i.invariant c.index-members-i.result c.loop-i-test.true c.index-members-i.is w.if-member.false)
     ]
 
 pub returns : goal.returns

@@ -1,12 +1,9 @@
-use Rattle.std.proofs.Common.{◌≡◌, ◌∙◌, ◌≤◌, ℕ, Err, Option, Some, None, length, map, ap, subst, sym, refl}
-use Rattle.std.specs.Prelude.{All, IsNone, IfSome, true, false, ◌↔◌}
-use Rattle.std.specs.Int.{◌∣◌}
+use Rattle.std.proofs.Common.{◌≡◌, ◌∙◌, ℕ, Err, length, map, ap, subst, sym}
+use Rattle.std.specs.Prelude.{All}
 use Rattle.alg_core.specs.Spaces.{entries}
-use Rattle.lin_algebra.specs.declared.matrix.Matrix.{Matrix}
 use Rattle.matrix_group.specs.Actions.{IsSquare}
-use Rattle.matrix_group.specs.Groups.{size, cells_of, AreElements, IsGroup}
+use Rattle.matrix_group.specs.Groups.{size, cells_of, IsGroup}
 use Rattle.prime_field.specs.PrimeFields.{gfp}
-use Rattle.reynolds_op.specs.Averages.{Averaging, IsAveraging}
 use Rattle.finvar_text.proofs.ScriptSteps.{field_number}
 use Rattle.finvar_text.specs.Problems.{problem_in}
 use Rattle.finite_certificate.specs.MarkSpaces.{mark_space}
@@ -15,8 +12,6 @@ use Rattle.alg_core.specs.Spaces.{SpaceOver}
 use Rattle.alg_core.specs.declared.block_order.BlockOrder.{BlockOrder}
 use Rattle.alg_core.specs.declared.space.Space.{Space}
 use Rattle.invring_app.specs.Faults.{fault_of_group}
-use Rattle.invring_app.specs.AveragedGroups.{IsAveragingOf}
-use Rattle.invring_app.specs.Commands.Rings.{IsGrouped}
 use Rattle.invring_app.specs.RingFaults.{IsRingTold}
 use Rattle.invring_app.proofs.FaultLaws.{handed-on}
 use Rattle.invring_app.proofs.GeneratorLaws.{squares, inverses, size-is}
