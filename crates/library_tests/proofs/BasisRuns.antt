@@ -11,7 +11,7 @@ use Rattle.invring_app.specs.declared.status.Status.TheVariants.{Done}
 use Rattle.invring_app.specs.declared.words.Request.{Request}
 use Rattle.invring_app.specs.Commands.{reads, EndsAs}
 use Rattle.invring_app.specs.Commands.Bases.{IsBasisText}
-use Rattle.invring_app.specs.Endings.{Ending, StopsAt, Answers, Modular}
+use Rattle.invring_app.specs.Endings.{Ending, StopsAt, Answers}
 use Rattle.invring_app.specs.Inputs.{Input, NoInput, OfScript, ReadsAs, Takes}
 use Rattle.invring_app.specs.Outcomes.{status_of, output_of, IsEnd, EndsAt, Writing}
 
@@ -36,7 +36,6 @@ basis-of c d l script bytes text left' i is takes read ends =
 ended-basis : (r : Request) (d : ℕ) (script taken' : List ℕ) (left' : Option (List ℕ)) (e : Ending) → r.command ≡ Basis d → Done ≡ status_of e → EndsAt r (Some script) left' e → Took (Some []) (output_of e) (Some taken')
     → (q : Problem) × IsProblemText script q × IsBasisText q d taken'
 ended-basis r d script taken' left' (StopsAt f) is ended at took = absurd cc
-ended-basis r d script taken' left' Modular is ended at took = absurd cc
 ended-basis r d script taken' left' (Answers text) is ended at took =
     let basis = basis-of r.command d r.limits script at.bytes text left' at.input is at.takes at.read at.ends in
     (basis.0, basis.1, subst (IsBasisText basis.0 d) (sym took) basis.2)
