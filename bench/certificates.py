@@ -353,7 +353,7 @@ class Certificate:
         return self.text([(zip(names, b + a), f[(b, a)]) for b, a in keys])
 
     def combination_text(self, c):
-        keys = sorted(c, key=lambda t: (self.marks(t[1]), -t[0]), reverse=True)
+        keys = sorted(c, key=lambda t: (-t[0], self.marks(t[1])), reverse=True)
         names = self.mark_names()
         return self.text([(list(zip(names, a)) + [(f"%{j + 1}", 1)], c[(j, a)]) for j, a in keys])
 
