@@ -1,23 +1,23 @@
 -- The text of a demonstration is that of a script, and sets its problem: for each number of pairs by computing.
-use Rattle.std.proofs.Common.{◌≡◌, ◌⊎◌, ◌∙◌, ℕ, zero, suc, ◌+◌, ◌-◌, ◌*◌, ◌%◌, ◌<◌, ◌≤◌, Bool, true, false, ◌&&◌, List, [], ◌∷◌, ◌++◌, length, map, Some, None, if◌then◌else◌, inl, inr, refl, sym, ap, subst, arith}
+use Rattle.std.proofs.Common.{◌≡◌, ◌⊎◌, ◌∙◌, ℕ, zero, suc, ◌+◌, ◌-◌, ◌*◌, ◌%◌, ◌<◌, ◌≤◌, Bool, true, false, ◌&&◌, List, [], ◌∷◌, length, map, Some, None, if◌then◌else◌, inl, inr, refl, sym, ap, subst, arith}
 use Rattle.std.specs.Prelude.{◌==◌, Option, codes, nat_le, nat_lt, slice_index_or}
 use Rattle.std.proofs.lemmas.Bool.{leb-true}
 use Rattle.std.proofs.lemmas.Bool.Decides.{nat_tests}
 use native.Mathlib.Decide.{ℕ_discrete}
 use Rattle.alg_core.specs.Fields.{Scalar, scalar, scalars, scalar_zero, scalar_one}
 use Rattle.alg_core.specs.declared.input_fault.InputFault.{InputFault}
-use Rattle.lin_algebra.specs.Matrices.{cut, product, IsIdentity, IsInverse}
-use Rattle.lin_algebra.specs.Vectors.{dot, unit}
+use Rattle.lin_algebra.specs.Matrices.{cut, product, IsIdentity}
+use Rattle.lin_algebra.specs.Vectors.{unit}
 use Rattle.lin_algebra.proofs.DotLaws.{dot_same, dot_comm, dot_unit, unit_at, unit_other}
 use Rattle.prime_field.specs.ListedPrimes.{is_listed}
 use Rattle.prime_field.specs.PrimeFields.{gfp}
-use Rattle.finvar_text.specs.Conditions.{value, cells, generators, entries_of_cells, first_of, value_conditions, IsNonsingularModulo, FirstSingular, FaultFrom, HasFault, is_small}
-use Rattle.finvar_text.specs.Demos.{cell, exchange, letters, separated, ring_line, matrix_line, call_line, demo_problem, demo_text}
+use Rattle.finvar_text.specs.Conditions.{value, cells, generators, entries_of_cells, first_of, value_conditions, IsNonsingularModulo, FaultFrom, HasFault}
+use Rattle.finvar_text.specs.Demos.{exchange, letters, separated, ring_line, matrix_line, call_line, demo_problem, demo_text}
 use Rattle.finvar_text.specs.Grammar.{After, Items, next_symbol, next_word, next_number, opening_symbol, opening_word, opening_number, body_symbol, body_word, body_number, matrix_symbol, matrix_number, call_symbol, call_word}
-use Rattle.finvar_text.specs.Problems.{IsProblemText}
+use Rattle.finvar_text.specs.Problems.{problem_of, IsProblemText}
 use Rattle.finvar_text.specs.Scanning.{Scan, Between, at, start_scan, scan, step_in, between, in_word, in_number}
 use Rattle.finvar_text.specs.Scripts.{most_bytes}
-use Rattle.finvar_text.specs.Syntax.{Entry, Matrix, Call, Declared, Called, Script}
+use Rattle.finvar_text.specs.Syntax.{Matrix, Call, Declared, Called, Script}
 use Rattle.finvar_text.proofs.Scans.{scanned_text}
 
 -- tests of all numbers below one
@@ -30,16 +30,13 @@ both : (a b : Bool) → (a && b) ≡ true → (a ≡ true) × (b ≡ true)
 both true b h = (refl, h)
 both false b h = absurd cc
 
+below_more : (n : ℕ) (test : ℕ → Bool) (i : ℕ) → test n ≡ true → (i < n → test i ≡ true) → i < suc n → Dec (i ≡ n) → test i ≡ true
+below_more n test i here below l (yes e) = subst (λ j. test j ≡ true) (sym e) here
+below_more n test i here below l (no d) = below (omega arith)
+
 below_at : (n : ℕ) (test : ℕ → Bool) → all_below n test ≡ true → (i : ℕ) → i < n → test i ≡ true
 below_at zero test h i l = absurd (omega arith)
-below_at (suc n) test h i l = go (ℕ_discrete i n)
-  where
-    parts : (test n ≡ true) × (all_below n test ≡ true)
-    parts = both (test n) (all_below n test) h
-
-    go : Dec (i ≡ n) → test i ≡ true
-    go (yes e) = subst (λ j. test j ≡ true) (sym e) parts.0
-    go (no d) = below_at n test parts.1 i (omega arith)
+below_at (suc n) test h i l = let parts = both (test n) (all_below n test) h in below_more n test i parts.0 (below_at n test parts.1 i) l (ℕ_discrete i n)
 
 -- a matrix whose row i is that of the identity at the partner of i
 
@@ -138,3 +135,54 @@ record IsComputed (k : ℕ) : Type 0 where
 computed_one : IsComputed 1
 unfolding demo_text ring_line matrix_line call_line separated exchange value generators step_in between in_word in_number next_symbol next_word next_number opening_symbol opening_word opening_number body_symbol body_word body_number matrix_symbol matrix_number call_symbol call_word
 computed_one = record { short = refl; read = refl; conditions = refl; count = refl; cells_are = refl; exchanges = refl }
+
+computed_two : IsComputed 2
+unfolding demo_text ring_line matrix_line call_line separated exchange value generators step_in between in_word in_number next_symbol next_word next_number opening_symbol opening_word opening_number body_symbol body_word body_number matrix_symbol matrix_number call_symbol call_word
+computed_two = record { short = refl; read = refl; conditions = refl; count = refl; cells_are = refl; exchanges = refl }
+
+computed_three : IsComputed 3
+unfolding demo_text ring_line matrix_line call_line separated exchange value generators step_in between in_word in_number next_symbol next_word next_number opening_symbol opening_word opening_number body_symbol body_word body_number matrix_symbol matrix_number call_symbol call_word
+computed_three = record { short = refl; read = refl; conditions = refl; count = refl; cells_are = refl; exchanges = refl }
+
+computed_four : IsComputed 4
+unfolding demo_text ring_line matrix_line call_line separated exchange value generators step_in between in_word in_number next_symbol next_word next_number opening_symbol opening_word opening_number body_symbol body_word body_number matrix_symbol matrix_number call_symbol call_word
+computed_four = record { short = refl; read = refl; conditions = refl; count = refl; cells_are = refl; exchanges = refl }
+
+computed : (k : ℕ) → 1 ≤ k → k ≤ 4 → IsComputed k
+computed k some few = by (one_of k some few)
+  where
+    one_of : (k : ℕ) → 1 ≤ k → k ≤ 4 → (k ≡ 1) ⊎ ((k ≡ 2) ⊎ ((k ≡ 3) ⊎ (k ≡ 4)))
+    one_of k some few = grind arith
+
+    by : (k ≡ 1) ⊎ ((k ≡ 2) ⊎ ((k ≡ 3) ⊎ (k ≡ 4))) → IsComputed k
+    by (inl e) = subst IsComputed (sym e) computed_one
+    by (inr (inl e)) = subst IsComputed (sym e) computed_two
+    by (inr (inr (inl e))) = subst IsComputed (sym e) computed_three
+    by (inr (inr (inr e))) = subst IsComputed (sym e) computed_four
+
+-- from that to the script and its problem
+
+nonsingular : (k : ℕ) → IsComputed k → IsNonsingularModulo 2 (length (demo_tree k).variables) (cells 2 (demo_matrix (2 * k)))
+nonsingular k c =
+    subst (λ n. IsNonsingularModulo 2 n (cells 2 (demo_matrix (2 * k)))) (sym c.count)
+    (subst (IsNonsingularModulo 2 (2 * k)) (sym c.cells_are) (self_inverse 2 refl (2 * k) (exchange (2 * k)) c.exchanges))
+
+no_fault : (k : ℕ) → IsComputed k → HasFault (demo_tree k) None
+unfolding value generators
+no_fault k c = subst (λ (o : Option InputFault). FaultFrom o (demo_tree k) None) (sym c.conditions) (inl (nonsingular k c, refl))
+
+problem_is : (k : ℕ) → IsComputed k → demo_problem k ≡ problem_of (demo_tree k)
+unfolding value generators
+problem_is k c = let cells_are = sym c.cells_are in λ i. record { characteristic = 2; variables = map (λ b. b ∷ []) (letters (2 * k)); generators = cells_are i ∷ [] }
+
+script_is : (k : ℕ) → IsComputed k → IsProblemText (demo_text k) (demo_problem k)
+script_is k c = record {
+  short = leb-true _ _ c.short;
+  tree = demo_tree k;
+  text = scanned_text (demo_text k) (demo_end k) (demo_tree k) c.read refl;
+  values = no_fault k c;
+  problem = problem_is k c;
+}
+
+pub demo_is_script : (k : ℕ) → 1 ≤ k → k ≤ 4 → IsProblemText (demo_text k) (demo_problem k)
+demo_is_script k some few = script_is k (computed k some few)

@@ -16,4 +16,3 @@ digits_more n place d ds one is =
 pub digits_are : (n : ℕ) (ds : List ℕ) (m : ℕ) → m ≡ n * n → ds ≡ map (λ c. 48 + cell n c) (range_with_len 0 m) → ds ≡ map (λ c. 48 + c) (exchange n)
 unfolding exchange
 digits_are n ds m all is = is ∙ ap (λ (k : ℕ). map (λ c. 48 + cell n c) (range_with_len 0 k)) all ∙ sym (map-map (λ c. 48 + c) (cell n) (range_with_len 0 (n * n)))
-
