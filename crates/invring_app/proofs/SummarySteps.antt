@@ -48,15 +48,28 @@ pub line_put : (w word ns : List ℕ) (i : ℕ) → length ns ≤ i → ((w ++ w
 unfolding numbers_line
 line_put w word ns i all = ap (λ (l : List ℕ). l ++ 10 ∷ []) (spaced_all decimal ns i (w ++ word) all) ∙ line_of_two w word (spaced (map decimal ns)) (10 ∷ [])
 
-pub summary_put : (k : ℕ) (c : CertificateOf ℕ) (ds es fs : List ℕ) → ds ≡ degrees c → es ≡ secondary_degrees c → fs ≡ irreducible_degrees c
-    → [] ++ numbers_line (codes "demo") (k ∷ []) ++ numbers_line (codes "order") (c.order ∷ []) ++ numbers_line (codes "primary") ds ++ numbers_line (codes "rank") (c.rank ∷ []) ++ numbers_line (codes "secondary") es
+-- what is put, and what it is to be
+pub record AreNumbers (k : ℕ) (c : CertificateOf ℕ) (pairs order rank : ℕ) (ds es fs : List ℕ) : Type 0 where
+  pub pairs_are : pairs ≡ k
+  pub order_is : order ≡ c.order
+  pub rank_is : rank ≡ c.rank
+  pub primaries : ds ≡ degrees c
+  pub secondaries : es ≡ secondary_degrees c
+  pub irreducibles : fs ≡ irreducible_degrees c
+
+pub summary_put : (k : ℕ) (c : CertificateOf ℕ) (pairs order rank : ℕ) (ds es fs : List ℕ) → AreNumbers k c pairs order rank ds es fs
+    → [] ++ numbers_line (codes "demo") (pairs ∷ []) ++ numbers_line (codes "order") (order ∷ []) ++ numbers_line (codes "primary") ds ++ numbers_line (codes "rank") (rank ∷ []) ++ numbers_line (codes "secondary") es
     ++ numbers_line (codes "irreducible") fs ≡ summary_text k c
 unfolding summary_text
-summary_put k c ds es fs primaries secondaries irreducibles =
-    let start = numbers_line (codes "demo") (k ∷ []) ++ numbers_line (codes "order") (c.order ∷ []) in
-    let text : List ℕ → List ℕ → List ℕ → List ℕ =
-    λ ds es fs. start ++ numbers_line (codes "primary") ds ++ numbers_line (codes "rank") (c.rank ∷ []) ++ numbers_line (codes "secondary") es ++ numbers_line (codes "irreducible") fs in
-    ap (λ ds. text ds es fs) primaries ∙ ap (λ es. text (degrees c) es fs) secondaries ∙ ap (text (degrees c) (secondary_degrees c)) irreducibles
+summary_put k c pairs order rank ds es fs is i =
+    let p = is.pairs_are in
+    let o = is.order_is in
+    let r = is.rank_is in
+    let x = is.primaries in
+    let y = is.secondaries in
+    let z = is.irreducibles in
+    numbers_line (codes "demo") (p i ∷ []) ++ numbers_line (codes "order") (o i ∷ []) ++ numbers_line (codes "primary") (x i) ++ numbers_line (codes "rank") (r i ∷ []) ++ numbers_line (codes "secondary") (y i)
+    ++ numbers_line (codes "irreducible") (z i)
 
 -- few variables
 

@@ -26,7 +26,7 @@ pub(crate) fn demo_summary(alloc: Global, pairs: u32, limits: &Limits) -> Result
     let bytes = demo_script(alloc, pairs)?;
     let script = read_script(alloc, &bytes)?;
     let cert = certificate(alloc, script, limits)?;
-    within(&cert, limits.max_text)?;
+    within(&cert, limits)?;
     let text = summary(alloc, pairs, &cert)?;
     Ok(text)
 }
