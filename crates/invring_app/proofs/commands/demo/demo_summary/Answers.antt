@@ -37,8 +37,8 @@ returns-in_err-within-clause-fault c =
     handed-on (IsFault (Demo k) l []) c.from_residual-in_err-within.result e c.from_residual-in_err-within.ensures.1
     (too-long k l q _ same made.kept made.certificate e c.in_err-within.ensures.fault)
 
-pub summary-text-requires : goal.summary-text-requires
-summary-text-requires c =
+pub summary-requires : goal.summary-requires
+summary-requires c =
     let few = narrow (problem_in c.in_ok-script.script) c.args.limits.now.tries _ c.in_ok-cert.ensures.certificate c.in_ok-script.ensures.sound.few in
     record { primaries = few.primaries; secondaries = few.secondaries; irreducibles = few.irreducibles }
 
