@@ -66,11 +66,7 @@ fn put_numbers(output: &mut Output, word: &[u8], numbers: &[u64])
 /// The summary of the certificate of so many exchanged pairs of variables: that number, the order of the
 /// group, the rank, and the degrees of the primary and secondary invariants and of the irreducible
 /// generators, as `secondary 0 2`.
-pub(crate) fn summary(
-    alloc: Global,
-    pairs: u32,
-    cert: &Certificate<u16>,
-) -> Result<Vec<u8>, Memory>
+pub(crate) fn summary(alloc: Global, pairs: u32, cert: &Certificate<u16>) -> Result<Vec<u8>, Memory>
     requires primaries { All HasFewVariables cert.now.primaries }
     requires secondaries { All HasFewVariables cert.now.secondaries }
     requires irreducibles { All HasFewVariables cert.now.irreducibles }
