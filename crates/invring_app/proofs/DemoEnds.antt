@@ -1,5 +1,5 @@
 -- How `demo` ends, and that it ends in one way.
-use Rattle.std.proofs.Common.{◌≡◌, ◌∙◌, ℕ, ◌≤◌, List, [], length, inl, inr, refl, sym, ap, subst}
+use Rattle.std.proofs.Common.{◌≡◌, ◌∙◌, ℕ, ◌≤◌, List, [], length, inr, refl, sym, ap, subst}
 use Rattle.alg_core.specs.declared.limits.Limits.{Limits}
 use Rattle.finvar_text.specs.Demos.{demo_problem, demo_text}
 use Rattle.finvar_text.specs.Problems.{Problem, IsProblemText}
