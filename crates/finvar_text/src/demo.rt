@@ -27,7 +27,6 @@ fn separated(alloc: Global, bytes: &[u8]) -> Result<Vec<u8>, Memory>
 }
 
 /// The line of the ring over GF(2) in the first n letters.
-#[tactic(auto, unfolding(crate::specs::Demos::ring_line))]
 fn ring_line(alloc: Global, n: u8) -> Result<Vec<u8>, Memory>
     requires few { n ≤ 8 }
     ensures is { IfOk result (λ t. t.items ≡ ring_line n) }
