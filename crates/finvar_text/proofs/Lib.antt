@@ -16,3 +16,5 @@ pub mod SingularSteps
 pub mod NameSteps
 pub mod ScriptSteps
 pub mod ProblemLaws
+pub mod DemoSteps
+pub mod DemoScripts

@@ -8,3 +8,4 @@ pub mod Grammar
 pub mod Scanning
 pub mod Parsers
 pub mod Scanners
+pub mod Demos

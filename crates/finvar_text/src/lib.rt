@@ -1,6 +1,7 @@
 //! Scripts: which bytes are one, the tree of each, the conditions on its values, and the first fault of all others.
 #![tactic(auto)]
 
+mod demo;
 mod fault;
 mod laws;
 mod number;
@@ -17,7 +18,8 @@ mod values_generators;
 mod values_matrices;
 mod values_names;
 
+pub use demo::demo_script;
 pub use fault::ScriptFault;
-pub use laws::{faults_of_scripts, trees_of_texts};
+pub use laws::{demos_are_scripts, faults_of_scripts, trees_of_texts};
 pub use read::read_script;
 pub use script::Script;

@@ -1,5 +1,5 @@
 -- What is proved by cases of the command: its name and number, and that it ends in one way.
-use Rattle.std.proofs.Common.{◌≡◌, ℕ, ◌≤◌, Bool, true, false, List, [], ◌∷◌, ◌++◌, refl, sym, ap, subst, ◌∙◌, arith, Some, None, if◌then◌else◌}
+use Rattle.std.proofs.Common.{◌≡◌, ℕ, ◌≤◌, Bool, true, false, ◌&&◌, List, [], ◌∷◌, ◌++◌, refl, sym, ap, subst, ◌∙◌, arith, Some, None, if◌then◌else◌}
 use Rattle.std.specs.Prelude.{nat_le, Option, codes, decimal, is_some}
 use Rattle.std.specs.Str.{bytes_eq}
 use Rattle.std.proofs.lemmas.Bool.{leb-true, le-leb}
@@ -7,12 +7,13 @@ use Rattle.std.proofs.lemmas.Option.{same_Some}
 use Rattle.std.proofs.lemmas.Slice.Eq.{bytes_eq-Decides}
 use Rattle.alg_core.specs.declared.limits.Limits.{Limits}
 use Rattle.invring_app.specs.declared.commands.Command.{Command}
-use Rattle.invring_app.specs.declared.commands.Command.TheVariants.{Basis, Order, Primary, Ring}
+use Rattle.invring_app.specs.declared.commands.Command.TheVariants.{Basis, Order, Primary, Ring, Demo}
 use Rattle.invring_app.specs.Commands.{◌>>=◌, command_name, numbers_of, IsNumberOf, command_of, EndsAs}
 use Rattle.invring_app.specs.Endings.{Ending, StopsAt, Answers, AreAlike}
 use Rattle.invring_app.specs.ErrorLines.{bound_pieces}
 use Rattle.invring_app.specs.Inputs.{Input, NoInput, OfScript}
 use Rattle.invring_app.proofs.EndingLaws.{basis-text-one, order-one, order-over}
+use Rattle.invring_app.proofs.DemoEnds.{demo-one}
 use Rattle.invring_app.proofs.PrimaryEnds.{primary-one}
 use Rattle.invring_app.proofs.RingEnds.{ring-one}
 use Rattle.invring_app.proofs.GivenLaws.{Cell, Fits}
@@ -40,6 +41,7 @@ numbers-fit (Basis d) = tt
 numbers-fit Order = tt
 numbers-fit Primary = tt
 numbers-fit Ring = tt
+numbers-fit (Demo k) = tt
 
 -- the command of a name and a number
 pub record IsCommandOf (w : List ℕ) (o : Option ℕ) (c : Command) : Type 0 where
@@ -47,14 +49,22 @@ pub record IsCommandOf (w : List ℕ) (o : Option ℕ) (c : Command) : Type 0 wh
   pub numbers : listed o ≡ numbers_of c
   pub range : IsNumberOf c
 
-with-number : (w : List ℕ) (o : Option ℕ) (most : ℕ) (make : ℕ → Command) → ((d : ℕ) → d ≤ most → (w ≡ command_name (make d)) × (d ∷ [] ≡ numbers_of (make d)) × IsNumberOf (make d))
-    → (c : Command) → (o >>= λ d. if nat_le d most then Some (make d) else None) ≡ Some c → IsCommandOf w o c
-with-number w None most make is c e = absurd cc
-with-number w (Some d) most make is c e = go (nat_le d most) refl e
+with-number : (w : List ℕ) (o : Option ℕ) (test : ℕ → Bool) (make : ℕ → Command) → ((d : ℕ) → test d ≡ true → (w ≡ command_name (make d)) × (d ∷ [] ≡ numbers_of (make d)) × IsNumberOf (make d))
+    → (c : Command) → (o >>= λ d. if test d then Some (make d) else None) ≡ Some c → IsCommandOf w o c
+with-number w None test make is c e = absurd cc
+with-number w (Some d) test make is c e = go (test d) refl e
   where
-    go : (t : Bool) → nat_le d most ≡ t → (if t then Some (make d) else None) ≡ Some c → IsCommandOf w (Some d) c
-    go true test e = let made = is d (leb-true d most test) in subst (λ (x : Command). IsCommandOf w (Some d) x) (same_Some _ c e) (record { name = made.0; numbers = made.1; range = made.2 })
-    go false test e = absurd cc
+    go : (t : Bool) → test d ≡ t → (if t then Some (make d) else None) ≡ Some c → IsCommandOf w (Some d) c
+    go true within e = let made = is d within in subst (λ (x : Command). IsCommandOf w (Some d) x) (same_Some _ c e) (record { name = made.0; numbers = made.1; range = made.2 })
+    go false within e = absurd cc
+
+-- from 1 to 4
+both-leb : (k : ℕ) → (nat_le 1 k && nat_le k 4) ≡ true → (1 ≤ k) × (k ≤ 4)
+both-leb k test = go (nat_le 1 k) refl test
+  where
+    go : (t : Bool) → nat_le 1 k ≡ t → (t && nat_le k 4) ≡ true → (1 ≤ k) × (k ≤ 4)
+    go true some few = (leb-true 1 k some, leb-true k 4 few)
+    go false some few = absurd cc
 
 without-number : (w : List ℕ) (o : Option ℕ) (made : Command) → w ≡ command_name made → [] ≡ numbers_of made → IsNumberOf made → (c : Command) → (if is_some o then None else Some made) ≡ Some c → IsCommandOf w o c
 without-number w None made name numbers range c e = subst (λ (x : Command). IsCommandOf w None x) (same_Some _ c e) (record { name = name; numbers = numbers; range = range })
@@ -71,10 +81,11 @@ command-if w name o first others this more c e = go (bytes_eq w name) refl e
 pub command_of-some : (w : List ℕ) (o : Option ℕ) (c : Command) → command_of w o ≡ Some c → IsCommandOf w o c
 unfolding command_of
 command_of-some w o =
-    command-if w _ o _ _ (with-number _ o 1000 (λ (d : ℕ). Basis d) (λ d l. (refl, refl, l)))
+    command-if w _ o _ _ (with-number _ o (λ (d : ℕ). nat_le d 1000) (λ (d : ℕ). Basis d) (λ d l. (refl, refl, leb-true d 1000 l)))
     (command-if w _ o _ _ (without-number _ o Order refl refl tt)
     (command-if w _ o _ _ (without-number _ o Primary refl refl tt)
-    (command-if w _ o _ _ (without-number _ o Ring refl refl tt) (λ c e. absurd cc))))
+    (command-if w _ o _ _ (without-number _ o Ring refl refl tt)
+    (command-if w _ o _ _ (with-number _ o (λ (k : ℕ). nat_le 1 k && nat_le k 4) (λ (k : ℕ). Demo k) (λ k l. (refl, refl, both-leb k l))) (λ c e. absurd cc)))))
 
 pub command_of-is : (c : Command) (o : Option ℕ) → listed o ≡ numbers_of c → IsNumberOf c → command_of (command_name c) o ≡ Some c
 unfolding command_of
@@ -82,6 +93,9 @@ command_of-is (Basis d) o e range = ap (command_of (codes "basis")) (listed-some
 command_of-is Order o e range = ap (command_of (codes "order")) (listed-none o e)
 command_of-is Primary o e range = ap (command_of (codes "primary")) (listed-none o e)
 command_of-is Ring o e range = ap (command_of (codes "ring")) (listed-none o e)
+command_of-is (Demo k) o e range =
+    ap (command_of (codes "demo")) (listed-some o k e)
+    ∙ ap (λ (t : Bool). if t && nat_le k 4 then Some (Demo k) else None) (le-leb 1 k range.0) ∙ ap (λ (t : Bool). if t then Some (Demo k) else None) (le-leb k 4 range.1)
 
 -- a command ends in one way
 
@@ -100,3 +114,5 @@ ending-one Primary l NoInput e f h g = absurd h
 ending-one Primary l (OfScript q) e f h g = primary-one q l e f h g
 ending-one Ring l NoInput e f h g = absurd h
 ending-one Ring l (OfScript q) e f h g = ring-one q l e f h g
+ending-one (Demo k) l NoInput e f h g = demo-one k l e f h g
+ending-one (Demo k) l (OfScript q) e f h g = absurd h

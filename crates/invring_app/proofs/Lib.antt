@@ -44,3 +44,5 @@ pub mod WholeCertificates
 pub mod EvidenceSteps
 pub mod GeneratorSteps
 pub mod GroupSteps
+pub mod SummarySteps
+pub mod DemoEnds

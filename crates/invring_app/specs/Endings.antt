@@ -4,6 +4,7 @@
 --   AreAlike e e'        the same text, or bounds whose kind and numbers are the same: the pieces of their lines are
 --   AtProblem P Q i e    the input i is the problem of a script, and the ending e is a bound of which P holds there, or a text of
 --                        which Q does
+--   AtNothing P Q i e    the same of a bound and a text where nothing was read
 use Rattle.std.specs.Prelude.{◌≡◌, ℕ, List}
 use Rattle.finvar_text.specs.Problems.{Problem}
 use Rattle.invring_app.specs.declared.status.BoundFault.{BoundFault}
@@ -24,3 +25,8 @@ abbrev pub AtProblem : (Problem → BoundFault → Type 0) → (Problem → List
 AtProblem stops answers NoInput e = ⊥
 AtProblem stops answers (OfScript q) (StopsAt f) = stops q f
 AtProblem stops answers (OfScript q) (Answers text) = answers q text
+
+abbrev pub AtNothing : (BoundFault → Type 0) → (List ℕ → Type 0) → Input → Ending → Type 0
+AtNothing stops answers NoInput (StopsAt f) = stops f
+AtNothing stops answers NoInput (Answers text) = answers text
+AtNothing stops answers (OfScript q) e = ⊥

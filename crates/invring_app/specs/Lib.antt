@@ -2,6 +2,7 @@ pub mod Numerals
 pub mod Inputs
 pub mod ErrorLines
 pub mod Lines
+pub mod Summaries
 pub mod Endings
 pub mod Commands
 pub mod Words

@@ -30,19 +30,31 @@ use alg_core::Limits;
 use certificate_io::{Certificate, print_certificate, printed_length};
 use finvar_text::read_script;
 use std::alloc::Global;
-use whole::certificate;
+pub(crate) use whole::certificate;
 
-/// The text of the certificate. TextBound says that it is longer than the limit; it is not made then.
-fn text_within(alloc: Global, cert: &Certificate<u16>, max_text: u64) -> Result<Vec<u8>, Fault>
+/// TextBound says that the text of the certificate is longer than the limit. No text is made.
+pub(crate) fn within(cert: &Certificate<u16>, limits: &Limits) -> Result<(), Fault>
     requires printable { IsPrintable cert.now }
-    ensures text { IfOk result (λ t. t.items ≡ certificate_text cert.now) }
-    ensures short { IfOk result (λ t. length (certificate_text cert.now) ≤ max_text) }
-    ensures fault { IfErr result (IsTooLong (length (certificate_text cert.now)) max_text) }
+    requires limits { AreLimits limits.now }
+    ensures short { IfOk result (λ _. length (certificate_text cert.now) ≤ limits.now.max_text) }
+    ensures fault { IfErr result (IsTooLong (length (certificate_text cert.now)) limits.now.max_text) }
 {
     let bytes = printed_length(cert);
-    if bytes > max_text {
+    if bytes > limits.max_text {
         return Err(Fault::Bound(BoundFault::TextBound { bytes }));
     }
+    Ok(())
+}
+
+/// The text of the certificate, where it is within the limit.
+fn text_within(alloc: Global, cert: &Certificate<u16>, limits: &Limits) -> Result<Vec<u8>, Fault>
+    requires printable { IsPrintable cert.now }
+    requires limits { AreLimits limits.now }
+    ensures text { IfOk result (λ t. t.items ≡ certificate_text cert.now) }
+    ensures short { IfOk result (λ t. length (certificate_text cert.now) ≤ limits.now.max_text) }
+    ensures fault { IfErr result (IsTooLong (length (certificate_text cert.now)) limits.now.max_text) }
+{
+    within(cert, limits)?;
     let text = print_certificate(alloc, cert)?;
     Ok(text)
 }
@@ -59,6 +71,6 @@ pub fn ring_text(alloc: Global, script: &[u8], limits: &Limits) -> Result<Vec<u8
 {
     let script = read_script(alloc, script)?;
     let cert = certificate(alloc, script, limits)?;
-    let text = text_within(alloc, &cert, limits.max_text)?;
+    let text = text_within(alloc, &cert, limits)?;
     Ok(text)
 }
