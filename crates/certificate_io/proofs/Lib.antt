@@ -1,2 +1,18 @@
 pub mod LineLaws
 pub mod CertificateLines
+pub mod Splits
+pub mod LineWords
+pub mod DigitSteps
+pub mod WordSteps
+pub mod PairSteps
+pub mod LineTails
+pub mod CellSteps
+pub mod Completions
+pub mod Shapes
+mod ReadingRuns
+mod PolynomialReadings
+mod PartReadings
+mod WordRuns
+mod ClassRuns
+pub mod LineTrees
+pub mod CertificateTrees
