@@ -142,7 +142,6 @@ fn word_count(text: &[u8]) -> usize
 /// The classes of the entries of this text, where each prints one.
 fn classes_of(alloc: Global, p: u32, text: &[u8]) -> Result<Option<Vec<u16>>, Memory>
     requires narrow { p < 2 ^ 16 }
-    requires text { (cs : List Cell) × IsSomeOf IsCell cs × (matrix_text cs ≡ text.now) }
     ensures is { (cs : List Cell) → IsSomeOf IsCell cs → matrix_text cs ≡ text.now
         → IfOk result (λ o. option_map (λ v. v.items) o ≡ classes_in p cs) }
 {
@@ -163,16 +162,9 @@ fn classes_of(alloc: Global, p: u32, text: &[u8]) -> Result<Option<Vec<u16>>, Me
 }
 
 /// The matrix of a line, with n rows and columns.
-fn matrix(
-    alloc: Global,
-    p: u32,
-    n: usize,
-    line: u64,
-    text: &[u8],
-) -> Result<Matrix<u16>, CertFault>
+fn matrix(alloc: Global, p: u32, n: usize, line: u64, text: &[u8]) -> Result<Matrix<u16>, CertFault>
     requires narrow { p < 2 ^ 16 }
     requires small { n ≤ 8 }
-    requires text { (cs : List Cell) × IsSomeOf IsCell cs × (matrix_text cs ≡ text.now) }
     ensures is { (cs : List Cell) → IsSomeOf IsCell cs → matrix_text cs ≡ text.now
         → Answers result (on_line line (matrix_kind p n cs)) (λ m. IsSquare p n (matrix_of m) × (matrix_cells p (matrix_of m) ≡ cs)) }
 {
@@ -201,7 +193,6 @@ pub(crate) fn matrices_of(
     requires narrow { p < 2 ^ 16 }
     requires small { n ≤ 8 }
     requires room { 4 + length lines.now < 2 ^ 64 }
-    requires texts { (xs : List (List Cell)) × All (IsSomeOf IsCell) xs × (tails lines.now ≡ map matrix_text xs) }
     ensures is { (xs : List (List Cell)) → All (IsSomeOf IsCell) xs → tails lines.now ≡ map matrix_text xs
         → Answers result (run_fault (λ _ cs. matrix_kind p n cs) 4 0 xs)
         (λ v. AreReadBy (λ m. IsSquare p n (matrix_of m)) (λ m. matrix_cells p (matrix_of m)) (λ x. x) xs v.items) }
