@@ -14,5 +14,6 @@ mod PolynomialReadings
 mod PartReadings
 mod WordRuns
 mod ClassRuns
+mod SectionRuns
 pub mod LineTrees
 pub mod CertificateTrees

@@ -10,4 +10,6 @@ pub mod Conditions
 pub mod Parts
 pub mod Readings
 pub mod LineReadings
+pub mod PartFaults
+pub mod Sections
 pub mod Laws
