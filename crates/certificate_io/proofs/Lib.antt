@@ -16,3 +16,5 @@ mod WordRuns
 mod ClassRuns
 pub mod LineTrees
 pub mod CertificateTrees
+pub mod TextSections
+pub mod SectionFaults
