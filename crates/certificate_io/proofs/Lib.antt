@@ -18,3 +18,4 @@ pub mod LineTrees
 pub mod CertificateTrees
 pub mod TextSections
 pub mod SectionFaults
+pub mod TextFaults
