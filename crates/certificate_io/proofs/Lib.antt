@@ -17,3 +17,6 @@ mod ClassRuns
 mod SectionRuns
 pub mod LineTrees
 pub mod CertificateTrees
+pub mod TextSections
+pub mod SectionFaults
+pub mod TextFaults
