@@ -5,8 +5,8 @@ use Rattle.std.proofs.lemmas.List.{length-map}
 use Rattle.std.proofs.lemmas.List.Elements.{All-nil, All-cons, All-head, All-tail}
 use Rattle.certificate_io.specs.Lines.{joined, line_of, shown, words}
 use Rattle.poly_text.specs.Syntax.{Term, spelling}
-use Rattle.certificate_io.specs.PartFaults.{size_of}
-use Rattle.certificate_io.specs.Parts.{EvidenceTree, Images, Kernel, evidence_lines, image_line, member_line, moved_or_fixed}
+use Rattle.certificate_io.specs.PartFaults.{evidence_length}
+use Rattle.certificate_io.specs.Parts.{TextParts, EvidenceTree, Images, Kernel, evidence_lines, image_line, member_line, moved_or_fixed}
 use Rattle.certificate_io.specs.Readings.{tails, image_text, member_text, words_after}
 use Rattle.certificate_io.specs.Sections.{section_kind, IsIn, Stops, StopsLines, IsSection, IsRun, IsEvidenceRun}
 use Rattle.certificate_io.specs.Syntax.{LineTree, ReynoldsLine, KernelLine, IrreducibleLine, WordLine, EndLine, kind_of}
@@ -87,21 +87,21 @@ abbrev evidence_section : Bool → LineKind
 evidence_section by_kernel = if by_kernel then kinds.Fixed else kinds.Image
 
 -- the lines of the evidence, told by the first
-pub evidence_cut : (e : EvidenceTree) (by_kernel : Bool) (i : ℕ) (more : List LineTree) (s rest run after : Section) → IsSection i (evidence_lines e ++ more) s
+pub evidence_cut : (t : TextParts) (e : EvidenceTree) (by_kernel : Bool) (i : ℕ) (more : List LineTree) (s rest run after : Section) → IsSection i (evidence_lines e ++ more) s
     → ((i : ℕ) (l : LineTree) (ls : List LineTree) → IsSection i (l ∷ ls) s → (by_kernel ≡ true) ↔ (kind_of l ≡ kinds.Kernel))
     → ((i : ℕ) (l : LineTree) (ls : List LineTree) → IsSection i (l ∷ ls) s → IsSection (i + 1) ls rest)
     → ((i : ℕ) (ls ms : List LineTree) → IsSection i (ls ++ ms) rest → All (λ l. section_kind (kind_of l) ≡ evidence_section by_kernel) ls → StopsLines (evidence_section by_kernel) ms
     → IsSection i ls run × IsSection (i + length ls) ms after)
     → ((k : LineKind) → (k ≡ kinds.Fixed) ⊎ (k ≡ kinds.Image) → StopsLines k more)
-    → IsEvidenceRun (i + 1) e by_kernel run × IsSection (i + 1 + size_of e) more after
-evidence_cut (Images xs) true i more s rest run after h begins line cut stops = absurd (let k = (begins i ReynoldsLine (map image_line xs ++ more) h).0 refl in cc)
-evidence_cut (Images xs) false i more s rest run after h begins line cut stops =
+    → IsEvidenceRun (i + 1) e by_kernel run × IsSection (i + 1 + evidence_length t e) more after
+evidence_cut t (Images xs) true i more s rest run after h begins line cut stops = absurd (let k = (begins i ReynoldsLine (map image_line xs ++ more) h).0 refl in cc)
+evidence_cut t (Images xs) false i more s rest run after h begins line cut stops =
     let found = cut (i + 1) (map image_line xs) more (line i ReynoldsLine (map image_line xs ++ more) h) (in_run image_line kinds.Image (λ x. refl) xs) (stops kinds.Image (inr refl)) in
     ((refl, run_of image_line image_text (λ x. refl) (i + 1) xs run found.0), after_run image_line (i + 1) xs more after found.1)
-evidence_cut (Kernel xs) true i more s rest run after h begins line cut stops =
+evidence_cut t (Kernel xs) true i more s rest run after h begins line cut stops =
     let found = cut (i + 1) (map member_line xs) more (line i KernelLine (map member_line xs ++ more) h) (in_run member_line kinds.Fixed (λ x. member_section x.polynomial x.combination) xs) (stops kinds.Fixed (inl refl)) in
     ((refl, run_of member_line member_text (λ x. member_said x.polynomial x.combination) (i + 1) xs run found.0), after_run member_line (i + 1) xs more after found.1)
-evidence_cut (Kernel xs) false i more s rest run after h begins line cut stops = absurd (let k = (begins i KernelLine (map member_line xs ++ more) h).1 refl in cc)
+evidence_cut t (Kernel xs) false i more s rest run after h begins line cut stops = absurd (let k = (begins i KernelLine (map member_line xs ++ more) h).1 refl in cc)
 
 -- what follows the evidence is in none of its sections
 pub others_stop : (xs ys : List (List Term)) (k : LineKind) → (k ≡ kinds.Fixed) ⊎ (k ≡ kinds.Image) → StopsLines k (map IrreducibleLine xs ++ (map WordLine ys ++ (EndLine ∷ [])))

@@ -12,7 +12,7 @@
 use Rattle.std.specs.Prelude.{◌≡◌, ◌≢◌, ◌<◌, ℕ, ◌+◌, ◌^◌, Bool, true, false, List, [], ◌∷◌, ◌++◌, length, map, All, decimal}
 use Rattle.poly_text.specs.Syntax.{spelling}
 use Rattle.certificate_io.specs.Lines.{joined, line_of, shown}
-use Rattle.certificate_io.specs.PartFaults.{primary_line, lift_line, power_line, rank_line, secondary_line, first_evidence, irreducible_line, word_line, end_line}
+use Rattle.certificate_io.specs.PartFaults.{heading_end, module_end, evidence_begin, evidence_end, words_begin, text_end}
 use Rattle.certificate_io.specs.Parts.{TextParts, EvidenceTree, Images, Kernel, evidence_lines}
 use Rattle.certificate_io.specs.Parts as parts
 use Rattle.certificate_io.specs.Readings.{image_text, matrix_text, member_text, power_text, tails}
@@ -81,19 +81,19 @@ pub record AreHeadingLines (t : TextParts) (s : HeadingLines) : Type 0 where
   pub order : s.order.now ≡ decimal t.order
 
 pub record AreModuleLines (t : TextParts) (s : ModuleLines) : Type 0 where
-  pub primaries : IsRun spelling (primary_line t) t.primaries s.primaries
-  pub lifts : IsRun spelling (lift_line t) t.lifts s.lifts
-  pub powers : IsRun power_text (power_line t) t.powers s.powers
+  pub primaries : IsRun spelling (heading_end t + 1) t.primaries s.primaries
+  pub lifts : IsRun spelling (heading_end t + length t.primaries + 1) t.lifts s.lifts
+  pub powers : IsRun power_text (heading_end t + length t.primaries + length t.lifts + 1) t.powers s.powers
   pub rank : s.rank.now ≡ decimal t.rank
-  pub rank_line : s.rank_line ≡ rank_line t
+  pub rank_line : s.rank_line ≡ module_end t
 
 abbrev pub IsEvidenceRun : ℕ → EvidenceTree → Bool → Section → Type 0
 IsEvidenceRun i (Images xs) by_kernel s = (by_kernel ≡ false) × IsRun image_text i xs s
 IsEvidenceRun i (Kernel xs) by_kernel s = (by_kernel ≡ true) × IsRun member_text i xs s
 
 pub record AreGeneratorLines (t : TextParts) (s : GeneratorLines) : Type 0 where
-  pub secondaries : IsRun spelling (secondary_line t) t.secondaries s.secondaries
-  pub evidence : IsEvidenceRun (first_evidence t) t.evidence s.by_kernel s.evidence
-  pub irreducibles : IsRun spelling (irreducible_line t) t.irreducibles s.irreducibles
-  pub words : IsRun spelling (word_line t) t.words s.words
-  pub end_line : s.end_line ≡ end_line t
+  pub secondaries : IsRun spelling (module_end t + 1) t.secondaries s.secondaries
+  pub evidence : IsEvidenceRun (evidence_begin t + 1) t.evidence s.by_kernel s.evidence
+  pub irreducibles : IsRun spelling (evidence_end t + 1) t.irreducibles s.irreducibles
+  pub words : IsRun spelling (words_begin t + 1) t.words s.words
+  pub end_line : s.end_line ≡ text_end t

@@ -3,7 +3,7 @@
 ghost use Rattle.std.specs.Prelude.{◌≡◌, ◌↔◌, ◌≤◌, ◌<◌, ◌+◌, ◌^◌, ℕ, List, ◌∷◌, ◌++◌, All, length, take, drop, true, if◌then◌else◌};
 ghost use Rattle.certificate_io.specs.Parts.{TextParts, lines_in};
 ghost use Rattle.certificate_io.specs.Sections.{section_kind, IsIn, Stops, StopsLines, IsSection, HasRoom, module_trees, generator_trees, AreHeadingLines, AreModuleLines, AreGeneratorLines};
-ghost use Rattle.certificate_io.specs.PartFaults.{primary_line, secondary_line};
+ghost use Rattle.certificate_io.specs.PartFaults.{heading_end, module_end};
 ghost use Rattle.certificate_io.specs.Lines.{shown};
 ghost use Rattle.certificate_io.specs.Syntax.{LineTree, kind_of};
 ghost use Rattle.certificate_io.specs.declared.line_kind.LineKind.TheVariants as kinds;
@@ -129,7 +129,7 @@ pub(crate) fn heading_lines<'a, 'b>(
     rest: &Section<'a, 'b>,
 ) -> (HeadingLines<'a, 'b>, Section<'a, 'b>)
     requires room { HasRoom rest.now }
-    ensures is { (t : TextParts) → IsSection 1 (lines_in t) rest.now → AreHeadingLines t result.0 × IsSection (primary_line t) (module_trees t) result.1 }
+    ensures is { (t : TextParts) → IsSection 1 (lines_in t) rest.now → AreHeadingLines t result.0 × IsSection (heading_end t + 1) (module_trees t) result.1 }
     ensures room { HasRoom result.0.matrices × HasRoom result.1 }
 {
     let (_, rest) = split_line(rest);
@@ -149,7 +149,7 @@ pub(crate) fn heading_lines<'a, 'b>(
 /// The lines after that of the order, up to that of the rank, and those after it.
 pub(crate) fn module_lines<'a, 'b>(rest: &Section<'a, 'b>) -> (ModuleLines<'a, 'b>, Section<'a, 'b>)
     requires room { HasRoom rest.now }
-    ensures is { (t : TextParts) → IsSection (primary_line t) (module_trees t) rest.now → AreModuleLines t result.0 × IsSection (secondary_line t) (generator_trees t) result.1 }
+    ensures is { (t : TextParts) → IsSection (heading_end t + 1) (module_trees t) rest.now → AreModuleLines t result.0 × IsSection (module_end t + 1) (generator_trees t) result.1 }
     ensures room { HasRoom result.1 }
 {
     let (primaries, rest) = split_run(rest, LineKind::Primary);
@@ -181,7 +181,7 @@ fn evidence_kind(by_kernel: bool) -> LineKind
 /// The lines after that of the rank.
 pub(crate) fn generator_lines<'a, 'b>(rest: &Section<'a, 'b>) -> GeneratorLines<'a, 'b>
     requires room { HasRoom rest.now }
-    ensures is { (t : TextParts) → IsSection (secondary_line t) (generator_trees t) rest.now → AreGeneratorLines t result }
+    ensures is { (t : TextParts) → IsSection (module_end t + 1) (generator_trees t) rest.now → AreGeneratorLines t result }
 {
     let (secondaries, rest) = split_run(rest, LineKind::Secondary);
     let by_kernel = begins_with(&rest, LineKind::Kernel);

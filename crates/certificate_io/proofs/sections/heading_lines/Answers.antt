@@ -1,6 +1,6 @@
 use Rattle.std.proofs.Common.{◌∙◌, ◌+◌, ◌∷◌, ◌++◌, length, map, refl, append-nil, arith}
 use Rattle.std.specs.Prelude.{decimal}
-use Rattle.certificate_io.specs.PartFaults.{primary_line}
+use Rattle.certificate_io.specs.PartFaults.{heading_end}
 use Rattle.certificate_io.specs.Parts.{lines_in}
 use Rattle.certificate_io.specs.Readings.{matrix_text}
 use Rattle.certificate_io.specs.Sections.{module_trees}
@@ -24,5 +24,5 @@ returns-clause-is c = λ t s.
         matrices = run_of MatrixLine matrix_text (λ x. refl) 4 t.matrices c.split_run.result.0 m.0;
         order = o.0 ∙ append-nil (decimal t.order);
       },
-      renumbered (4 + length t.matrices + 1) (primary_line t) (module_trees t) c.split_line-4.result.1 (omega arith) o.1,
+      renumbered (4 + length t.matrices + 1) (heading_end t + 1) (module_trees t) c.split_line-4.result.1 (omega arith) o.1,
     )
