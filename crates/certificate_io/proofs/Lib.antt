@@ -15,6 +15,7 @@ mod PartReadings
 mod WordRuns
 mod ClassRuns
 mod SectionRuns
+mod DegreeSteps
 pub mod LineTrees
 pub mod CertificateTrees
 pub mod TextSections

@@ -12,4 +12,5 @@ pub mod Readings
 pub mod LineReadings
 pub mod PartFaults
 pub mod Sections
+pub mod ReadParts
 pub mod Laws

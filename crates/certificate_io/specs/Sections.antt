@@ -6,6 +6,7 @@
 --   StopsLines k ls        the same of lines with their parts
 --   IsSection i ls s       the section begins with the line i, and has the lines ls
 --   HasRoom s              the numbers of its lines can be counted
+--   HasModuleRoom, HasGeneratorRoom s   so can those of these sections
 --   module_trees, generator_trees t    the lines after that of the order, after that of the rank
 --   IsRun C text i xs s    the section has the lines C x, from the line i on, and text says what follows their first words
 --   AreHeadingLines, AreModuleLines, AreGeneratorLines t s    the sections are those of the parts of the text
@@ -61,6 +62,17 @@ IsSection i ls s = (s.first ≡ i) × (map line_of s.lines.now ≡ map shown ls)
 
 abbrev pub HasRoom : Section → Type 0
 HasRoom s = s.first + length s.lines.now < 2 ^ 64
+
+pub record HasModuleRoom (s : ModuleLines) : Type 0 where
+  pub primaries : HasRoom s.primaries
+  pub lifts : HasRoom s.lifts
+  pub powers : HasRoom s.powers
+
+pub record HasGeneratorRoom (s : GeneratorLines) : Type 0 where
+  pub secondaries : HasRoom s.secondaries
+  pub evidence : HasRoom s.evidence
+  pub irreducibles : HasRoom s.irreducibles
+  pub words : HasRoom s.words
 
 abbrev pub generator_trees : TextParts → List LineTree
 generator_trees t =

@@ -2,7 +2,7 @@
 
 ghost use Rattle.std.specs.Prelude.{◌≡◌, ◌↔◌, ◌≤◌, ◌<◌, ◌+◌, ◌^◌, ℕ, List, ◌∷◌, ◌++◌, All, length, take, drop, true, if◌then◌else◌};
 ghost use Rattle.certificate_io.specs.Parts.{TextParts, lines_in};
-ghost use Rattle.certificate_io.specs.Sections.{section_kind, IsIn, Stops, StopsLines, IsSection, HasRoom, module_trees, generator_trees, AreHeadingLines, AreModuleLines, AreGeneratorLines};
+ghost use Rattle.certificate_io.specs.Sections.{section_kind, IsIn, Stops, StopsLines, IsSection, HasRoom, HasModuleRoom, HasGeneratorRoom, module_trees, generator_trees, AreHeadingLines, AreModuleLines, AreGeneratorLines};
 ghost use Rattle.certificate_io.specs.PartFaults.{heading_end, module_end};
 ghost use Rattle.certificate_io.specs.Lines.{shown};
 ghost use Rattle.certificate_io.specs.Syntax.{LineTree, kind_of};
@@ -150,7 +150,7 @@ pub(crate) fn heading_lines<'a, 'b>(
 pub(crate) fn module_lines<'a, 'b>(rest: &Section<'a, 'b>) -> (ModuleLines<'a, 'b>, Section<'a, 'b>)
     requires room { HasRoom rest.now }
     ensures is { (t : TextParts) → IsSection (heading_end t + 1) (module_trees t) rest.now → AreModuleLines t result.0 × IsSection (module_end t + 1) (generator_trees t) result.1 }
-    ensures room { HasRoom result.1 }
+    ensures room { HasModuleRoom result.0 × HasRoom result.1 }
 {
     let (primaries, rest) = split_run(rest, LineKind::Primary);
     let (lifts, rest) = split_run(&rest, LineKind::Lift);
@@ -182,6 +182,7 @@ fn evidence_kind(by_kernel: bool) -> LineKind
 pub(crate) fn generator_lines<'a, 'b>(rest: &Section<'a, 'b>) -> GeneratorLines<'a, 'b>
     requires room { HasRoom rest.now }
     ensures is { (t : TextParts) → IsSection (module_end t + 1) (generator_trees t) rest.now → AreGeneratorLines t result }
+    ensures room { HasGeneratorRoom result }
 {
     let (secondaries, rest) = split_run(rest, LineKind::Secondary);
     let by_kernel = begins_with(&rest, LineKind::Kernel);

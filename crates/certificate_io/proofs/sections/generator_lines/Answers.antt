@@ -9,9 +9,9 @@ use Rattle.certificate_io.specs.declared.line_kind.LineKind.TheVariants as kinds
 use Rattle.certificate_io.proofs.SectionRuns.{in_run, run_of, stops_run, after_run, renumbered, stops_evidence, evidence_cut, others_stop}
 use Rattle.certificate_io.proofs.sections.generator_lines.Goals as goal
 
-pub returns : goal.returns
-returns c = record {
-  is = λ t s.
+pub returns-clause-is : goal.returns-clause-is
+returns-clause-is c =
+    λ t s.
       let first = module_end t + 1 in
       let third = evidence_end t + 1 in
       let fourth = words_begin t + 1 in
@@ -35,5 +35,4 @@ returns c = record {
         irreducibles = run_of IrreducibleLine spelling (λ x. append-nil (spelling x)) third t.irreducibles c.split_run-3.result.0 i.0;
         words = run_of WordLine spelling (λ x. append-nil (spelling x)) fourth t.words c.split_run-4.result.0 w.0;
         end_line = (renumbered (fourth + length t.words) (text_end t) (EndLine ∷ []) c.split_run-4.result.1 (omega arith) (after_run WordLine fourth t.words (EndLine ∷ []) c.split_run-4.result.1 w.1)).0;
-      };
-}
+      }}
