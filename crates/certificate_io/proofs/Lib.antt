@@ -19,3 +19,4 @@ pub mod CertificateTrees
 pub mod TextSections
 pub mod SectionFaults
 pub mod TextFaults
+pub mod PartsShaped
