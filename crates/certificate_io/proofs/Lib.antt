@@ -20,3 +20,5 @@ pub mod TextSections
 pub mod SectionFaults
 pub mod TextFaults
 pub mod PartsShaped
+pub mod TextSpaces
+pub mod PartsOfLines
