@@ -22,3 +22,4 @@ pub mod TextFaults
 pub mod PartsShaped
 pub mod TextSpaces
 pub mod PartsOfLines
+pub mod PrintedTrees
