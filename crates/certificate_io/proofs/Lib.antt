@@ -21,3 +21,7 @@ pub mod CertificateTrees
 pub mod TextSections
 pub mod SectionFaults
 pub mod TextFaults
+pub mod PartsShaped
+pub mod TextSpaces
+pub mod PartsOfLines
+pub mod PrintedTrees
