@@ -16,6 +16,7 @@ mod WordRuns
 mod ClassRuns
 mod SectionRuns
 mod DegreeSteps
+mod SpaceReadings
 pub mod LineTrees
 pub mod CertificateTrees
 pub mod TextSections

@@ -35,4 +35,4 @@ returns-clause-is c =
         irreducibles = run_of IrreducibleLine spelling (λ x. append-nil (spelling x)) third t.irreducibles c.split_run-3.result.0 i.0;
         words = run_of WordLine spelling (λ x. append-nil (spelling x)) fourth t.words c.split_run-4.result.0 w.0;
         end_line = (renumbered (fourth + length t.words) (text_end t) (EndLine ∷ []) c.split_run-4.result.1 (omega arith) (after_run WordLine fourth t.words (EndLine ∷ []) c.split_run-4.result.1 w.1)).0;
-      }}
+      }
