@@ -14,6 +14,8 @@ mod PolynomialReadings
 mod PartReadings
 mod WordRuns
 mod ClassRuns
+mod SectionRuns
+mod DegreeSteps
 pub mod LineTrees
 pub mod CertificateTrees
 mod TextSections

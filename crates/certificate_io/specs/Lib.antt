@@ -10,4 +10,7 @@ pub mod Conditions
 pub mod Parts
 pub mod Readings
 pub mod LineReadings
+pub mod PartFaults
+pub mod Sections
+pub mod ReadParts
 pub mod Laws

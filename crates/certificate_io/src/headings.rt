@@ -15,7 +15,7 @@ ghost use Rattle.certificate_io.specs.Syntax.{IsCell};
 ghost use Rattle.certificate_io.specs.Values.{checked, is_among, is_printed_cell, names_fault, nothing_seen};
 
 use crate::fault::CertFault;
-use crate::line_text::{LineText, MAX_COUNT};
+use crate::line_text::{LineText, MAX_CHARACTERISTIC, MAX_COUNT};
 use crate::polynomials::tail_at;
 use crate::words::{Cell, cell_of, number, split};
 use alg_core::{Field, Memory, Name, ValueKind};
@@ -36,9 +36,20 @@ pub(crate) fn number_of(text: &[u8]) -> u64
     }
 }
 
+/// The characteristic of this text.
+pub(crate) fn characteristic_of(text: &[u8]) -> u32
+    ensures is { (n : ℕ) → IsNumber 99999 n text.now → result ≡ n }
+{
+    match number(text, MAX_CHARACTERISTIC) {
+        Some(number) => number as u32,
+        None => 0,
+    }
+}
+
 /// The field of this characteristic.
 pub(crate) fn field_of(p: u32) -> Result<PrimeField, CertFault>
     ensures is { Answers result (on_line 2 (checked kinds.Field (is_listed p))) (λ f. IsPrimeField p (⟦<PrimeField as Field>⟧.field f)) }
+    ensures narrow { IfOk result (λ _. p < 2 ^ 16) }
 {
     match PrimeField::new(p) {
         Ok(field) => Ok(field),
@@ -80,6 +91,7 @@ fn is_among(name: &Name, names: &[Name]) -> bool
 /// The fault of the line of the variables, the third one.
 pub(crate) fn names_fault(names: &[Name]) -> Result<(), CertFault>
     ensures is { Answers result (on_line 3 (names_fault nothing_seen names.now)) (λ _. Unit {0}) }
+    ensures few { IfOk result (λ _. length names.now ≤ 8) }
 {
     if names.len() > MAX_VARIABLES {
         return Err(CertFault::Value {
@@ -142,7 +154,6 @@ fn word_count(text: &[u8]) -> usize
 /// The classes of the entries of this text, where each prints one.
 fn classes_of(alloc: Global, p: u32, text: &[u8]) -> Result<Option<Vec<u16>>, Memory>
     requires narrow { p < 2 ^ 16 }
-    requires text { (cs : List Cell) × IsSomeOf IsCell cs × (matrix_text cs ≡ text.now) }
     ensures is { (cs : List Cell) → IsSomeOf IsCell cs → matrix_text cs ≡ text.now
         → IfOk result (λ o. option_map (λ v. v.items) o ≡ classes_in p cs) }
 {
@@ -163,16 +174,9 @@ fn classes_of(alloc: Global, p: u32, text: &[u8]) -> Result<Option<Vec<u16>>, Me
 }
 
 /// The matrix of a line, with n rows and columns.
-fn matrix(
-    alloc: Global,
-    p: u32,
-    n: usize,
-    line: u64,
-    text: &[u8],
-) -> Result<Matrix<u16>, CertFault>
+fn matrix(alloc: Global, p: u32, n: usize, line: u64, text: &[u8]) -> Result<Matrix<u16>, CertFault>
     requires narrow { p < 2 ^ 16 }
     requires small { n ≤ 8 }
-    requires text { (cs : List Cell) × IsSomeOf IsCell cs × (matrix_text cs ≡ text.now) }
     ensures is { (cs : List Cell) → IsSomeOf IsCell cs → matrix_text cs ≡ text.now
         → Answers result (on_line line (matrix_kind p n cs)) (λ m. IsSquare p n (matrix_of m) × (matrix_cells p (matrix_of m) ≡ cs)) }
 {
@@ -191,24 +195,24 @@ fn matrix(
     })
 }
 
-/// The generators, n by n, of which the first stands on the fourth line.
+/// The generators, n by n, of which the first stands on the line of this number.
 pub(crate) fn matrices_of(
     alloc: Global,
     p: u32,
     n: usize,
+    first: u64,
     lines: &[LineText],
 ) -> Result<Vec<Matrix<u16>>, CertFault>
     requires narrow { p < 2 ^ 16 }
     requires small { n ≤ 8 }
-    requires room { 4 + length lines.now < 2 ^ 64 }
-    requires texts { (xs : List (List Cell)) × All (IsSomeOf IsCell) xs × (tails lines.now ≡ map matrix_text xs) }
+    requires room { first + length lines.now < 2 ^ 64 }
     ensures is { (xs : List (List Cell)) → All (IsSomeOf IsCell) xs → tails lines.now ≡ map matrix_text xs
-        → Answers result (run_fault (λ _ cs. matrix_kind p n cs) 4 0 xs)
+        → Answers result (run_fault (λ _ cs. matrix_kind p n cs) first 0 xs)
         (λ v. AreReadBy (λ m. IsSquare p n (matrix_of m)) (λ m. matrix_cells p (matrix_of m)) (λ x. x) xs v.items) }
 {
     let mut matrices = Vec::new(alloc);
     for i in 0..lines.len() {
-        let line = 4 + i as u64;
+        let line = first + i as u64;
         let text = tail_at(lines, i);
         let matrix = matrix(alloc, p, n, line, text)?;
         matrices.push(matrix)?;

@@ -14,7 +14,7 @@ use poly_text::{is_monomial_text, is_polynomial_text};
 use std::alloc::Global;
 
 /// The greatest number on the line of the field.
-const MAX_CHARACTERISTIC: u64 = 99999;
+pub(crate) const MAX_CHARACTERISTIC: u64 = 99999;
 
 /// The greatest order and rank.
 pub(crate) const MAX_COUNT: u64 = 999_999_999_999_999_999;

@@ -12,4 +12,4 @@ use Rattle.certificate_io.proofs.headings.matrices_of.Given as goal
 abbrev pub invariant-loop-i : goal.invariant-loop-i
 invariant-loop-i l =
     (xs : List (List Cell)) → All (IsSomeOf IsCell) xs → tails l.lines ≡ map matrix_text xs
-    → ReadsLines (λ m. IsSquare l.p l.n (matrix_of m)) (λ m. matrix_cells l.p (matrix_of m)) (λ x. x) (λ _ cs. matrix_kind l.p l.n cs) 4 xs l.i l.matrices.items
+    → ReadsLines (λ m. IsSquare l.p l.n (matrix_of m)) (λ m. matrix_cells l.p (matrix_of m)) (λ x. x) (λ _ cs. matrix_kind l.p l.n cs) l.first xs l.i l.matrices.items

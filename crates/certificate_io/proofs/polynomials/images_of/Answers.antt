@@ -18,7 +18,7 @@ pub returns-in_err-image : goal.returns-in_err-image
 returns-in_err-image g c = record {
   is = λ xs each same.
       let S = over field_of g.O.TermOrder.order c.args.plain.now in
-    let T = over field_of g.P.TermOrder.order c.args.combined.now in
+      let T = over field_of g.P.TermOrder.order c.args.combined.now in
       let at = part_at image_text IsImageTree c.args.lines.now xs c.loop-i.i c.tail_at-text.result.now c.loop-i-test.true c.tail_at-text.ensures.is same each in
       let told = c.in_err-image.ensures.is at.part at.of at.spelled in
       error_answers c.from_residual.result c.in_err-image.field-0.0 (run_fault (λ _ x. image_kind S T c.args.names.now x) c.args.first 0 xs) (λ v. AreReadBy (IsImageIn S T c.args.names.now) (image_tree T c.args.names.now) (λ x. x) xs v.items) c.from_residual.ensures.1
@@ -38,7 +38,7 @@ pub returns : goal.returns
 returns g c = record {
   is = λ xs each same.
       let S = over field_of g.O.TermOrder.order c.args.plain.now in
-    let T = over field_of g.P.TermOrder.order c.args.combined.now in
+      let T = over field_of g.P.TermOrder.order c.args.combined.now in
       lines_end (IsImageIn S T c.args.names.now) (image_tree T c.args.names.now) (λ x. x) (λ _ x. image_kind S T c.args.names.now x) c.args.first xs c.loop-i.i c.loop-i.images.items
       (subst (λ (n : ℕ). n ≤ c.loop-i.i) (sym (lines_length image_text c.args.lines.now xs same)) c.loop-i-test.false) (c.loop-i.invariant xs each same);
 }

@@ -18,7 +18,7 @@ pub returns-in_err-member : goal.returns-in_err-member
 returns-in_err-member g c = record {
   is = λ xs each same.
       let S = over field_of g.O.TermOrder.order c.args.marked.now in
-    let T = over field_of g.P.TermOrder.order c.args.combined.now in
+      let T = over field_of g.P.TermOrder.order c.args.combined.now in
       let at = part_at member_text IsMemberTree c.args.lines.now xs c.loop-i.i c.tail_at-text.result.now c.loop-i-test.true c.tail_at-text.ensures.is same each in
       let told = c.in_err-member.ensures.is at.part at.of at.spelled in
       error_answers c.from_residual.result c.in_err-member.field-0.0 (run_fault (λ _ x. member_kind S T c.args.names.now x) c.args.first 0 xs) (λ v. AreReadBy (IsMemberIn S T c.args.names.now) (member_tree S T c.args.names.now) (λ x. x) xs v.items) c.from_residual.ensures.1
@@ -38,7 +38,7 @@ pub returns : goal.returns
 returns g c = record {
   is = λ xs each same.
       let S = over field_of g.O.TermOrder.order c.args.marked.now in
-    let T = over field_of g.P.TermOrder.order c.args.combined.now in
+      let T = over field_of g.P.TermOrder.order c.args.combined.now in
       lines_end (IsMemberIn S T c.args.names.now) (member_tree S T c.args.names.now) (λ x. x) (λ _ x. member_kind S T c.args.names.now x) c.args.first xs c.loop-i.i c.loop-i.members.items
       (subst (λ (n : ℕ). n ≤ c.loop-i.i) (sym (lines_length member_text c.args.lines.now xs same)) c.loop-i-test.false) (c.loop-i.invariant xs each same);
 }
