@@ -19,6 +19,7 @@ use Rattle.prime_field.specs.PrimeFields.{IsPrimeField}
 use Rattle.certificate_io.specs.Certificates.{MatrixOf, EvidenceOf, Averages, Members, CertificateOf}
 use Rattle.certificate_io.specs.Conditions.{degrees, irreducible_degrees, plain, marked, combined, worded, size, AreEvidence, IsPolynomialIn, IsCombinationIn, IsSquare, IsCertificate}
 use Rattle.certificate_io.specs.LineReadings.{IsImageIn, IsMemberIn, IsPowerIn}
+use Rattle.certificate_io.specs.PartFaults.{degrees_of, plain_of, marked_of, worded_of}
 use Rattle.certificate_io.specs.Parts.{TextParts, PowerTree, ImageTree, MemberTree, cell_in, tree_in, combination_in, power_in, image_in, member_in, evidence_in, lines_in, parts_of}
 use Rattle.certificate_io.specs.Readings.{CanRead, class_of}
 use Rattle.certificate_io.specs.Spaces.{field_at, word_space, plain_names, marked_names, word_names}
@@ -31,7 +32,6 @@ use Rattle.certificate_io.proofs.LineTrees.{lines_are_one}
 use Rattle.certificate_io.proofs.PartsOfLines.{parts_are_one}
 use Rattle.certificate_io.proofs.PrintedParts.{prime, reads_plain, reads_marked, reads_worded, powers_in, images_in, members_in, counted, degrees_told, printed_text}
 use Rattle.certificate_io.proofs.PrintedTrees.{told_back, polynomial_of, tree_back, mono_back, comb_one}
-use Rattle.certificate_io.proofs.TextFaults.{degrees_of, plain_of, marked_of, worded_of}
 
 abbrev square : ℕ → List ℕ → MatrixOf ℕ
 square n xs = record { rows = n; cols = n; cells = xs }

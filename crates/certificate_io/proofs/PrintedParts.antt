@@ -21,6 +21,7 @@ use Rattle.prime_field.specs.ListedPrimes.{is_listed}
 use Rattle.certificate_io.specs.Certificates.{EvidenceOf, Averages, Members, CertificateOf}
 use Rattle.certificate_io.specs.Conditions.{degree_of, degrees, secondary_degrees, irreducible_degrees, plain, marked, combined, worded, size, IsPolynomialIn, IsSquare, IsPower, IsImage, IsMember, AreEvidence, IsCertificate}
 use Rattle.certificate_io.specs.LineReadings.{power_kind, image_kind, member_kind, IsImageIn, IsMemberIn, IsPowerIn}
+use Rattle.certificate_io.specs.PartFaults.{heading_seen, degrees_of, heading_end, heading_faults, module_end, module_faults, evidence_begin, evidence_end, words_begin, text_end, generator_faults}
 use Rattle.certificate_io.specs.Parts.{EvidenceTree, Images, Kernel, AreParts, IsSomeOf, IsImageTree, IsMemberTree, IsEvidenceTree, cell_in, tree_in, power_in, image_in, member_in, evidence_in, lines_in, parts_of}
 use Rattle.certificate_io.specs.Readings.{CanRead, on_line, run_fault, matrix_kind, poly_kind}
 use Rattle.certificate_io.specs.Spaces.{field_at, combination_space, word_space, plain_names, marked_names, word_names}
@@ -35,7 +36,7 @@ use Rattle.certificate_io.proofs.LineLaws.{pairs}
 use Rattle.certificate_io.proofs.PartsShaped.{parts_shaped}
 use Rattle.certificate_io.proofs.PrintedSections.{some_map, checked_passes, matrix_is, matrix_passes, trees_are, trees_pass, powers_are, powers_pass, member_is, member_passes, image_is, image_passes}
 use Rattle.certificate_io.proofs.PrintedTrees.{all_parts, run_passes, tree_entries}
-use Rattle.certificate_io.proofs.TextFaults.{heading_seen, degrees_of, heading_end, heading_faults, module_end, module_faults, evidence_begin, evidence_end, words_begin, text_end, generator_faults, text_faults}
+use Rattle.certificate_io.proofs.TextFaults.{text_faults}
 use Rattle.certificate_io.proofs.TextSpaces.{prime_at, listed_digits, can_plain, can_marked, can_worded}
 
 module _ (c : CertificateOf ℕ) (is : IsCertificate c) where
