@@ -29,3 +29,4 @@ mod ClassCells
 mod PrintedSections
 mod PrintedParts
 mod CertificateParts
+mod CertificateReads
