@@ -19,10 +19,15 @@ mod DegreeSteps
 mod SpaceReadings
 pub mod LineTrees
 pub mod CertificateTrees
-pub mod TextSections
-pub mod SectionFaults
-pub mod TextFaults
-pub mod PartsShaped
-pub mod TextSpaces
-pub mod PartsOfLines
-pub mod PrintedTrees
+mod TextSections
+mod SectionFaults
+mod TextFaults
+mod PartsShaped
+mod TextSpaces
+mod PartsOfLines
+mod PrintedTrees
+mod ClassCells
+mod PrintedSections
+mod PrintedParts
+mod CertificateParts
+mod CertificateReads

@@ -21,7 +21,7 @@ use Rattle.poly_text.proofs.PositionParts.{by_all, by_terms, by_unique}
 use Rattle.poly_text.proofs.PrintedLaws.{printed_values}
 use Rattle.certificate_io.specs.Conditions.{IsPolynomialIn, IsCombinationIn}
 use Rattle.certificate_io.specs.Parts.{tree_in, combination_in}
-use Rattle.certificate_io.specs.Readings.{CanRead, comb_kind, comb_tree, on_line, poly_kind, poly_tree, run_fault}
+use Rattle.certificate_io.specs.Readings.{CanRead, comb_kind, comb_tree, poly_kind, poly_tree, run_fault}
 use Rattle.certificate_io.specs.Syntax.{IsPolynomial}
 use Rattle.certificate_io.proofs.PartReadings.{monomial_read}
 use Rattle.certificate_io.proofs.PolynomialReadings.{comb_passes, comb_text}
@@ -34,6 +34,10 @@ untied e = record { coef = e.1; at = record { pos = e.0.0; mono = e.0.1 } }
 pub terms_back : (f : List (CodeTerm ℕ (List ℕ))) → map untied (entries (λ m. m) f) ≡ f
 terms_back [] = refl
 terms_back (t ∷ f) = ap (λ l. t ∷ l) (terms_back f)
+
+-- the polynomial of a tree
+abbrev pub polynomial_of : SpaceOver ℕ → Names → List Term → List (CodeTerm ℕ (List ℕ))
+polynomial_of S names ts = map untied (map (entry_of None S names) ts)
 
 -- lines whose conditions hold
 pub run_passes : {X T : Type 0} (f : ℕ → T → Option ValueKind) (part : X → T) (P : X → Type 0) → ((k : ℕ) (x : X) → P x → f k (part x) ≡ None) → (i k : ℕ) (xs : List X) → All P xs → run_fault f i k (map part xs) ≡ None
@@ -77,11 +81,7 @@ module _ (S : SpaceOver ℕ) (names : Names) (p : ℕ) (prime : IsPrimeField p S
   pub tree_is : (f : List (CodeTerm ℕ (List ℕ))) → IsPolynomialIn S names f → IsPolynomial (tree f)
   tree_is f reads = (tree_values f reads).2
 
-  -- the polynomial of a tree
-  abbrev pub polynomial_of : List Term → List (CodeTerm ℕ (List ℕ))
-  polynomial_of ts = map untied (map (entry_of None S names) ts)
-
-  pub tree_back : (f : List (CodeTerm ℕ (List ℕ))) → IsPolynomialIn S names f → polynomial_of (tree f) ≡ f
+  pub tree_back : (f : List (CodeTerm ℕ (List ℕ))) → IsPolynomialIn S names f → polynomial_of S names (tree f) ≡ f
   tree_back f reads = ap (map untied) (tree_entries f reads) ∙ terms_back f
 
   abbrev pub factors : List ℕ → List Factor

@@ -3,17 +3,15 @@ use Rattle.std.proofs.Common.{◌≡◌, ◌∙◌, ℕ, suc, ◌+◌, List, [],
 use Rattle.std.specs.Prelude.{nat_le, ◌==◌}
 use Rattle.std.specs.Option.{option_or}
 use Rattle.std.proofs.lemmas.List.{length-map}
-use Rattle.alg_core.specs.PolynomialSpaces.{plain_space, marked_space}
-use Rattle.alg_core.specs.Spaces.{SpaceOver}
 use Rattle.alg_core.specs.declared.value_kind.ValueKind.{ValueKind}
 use Rattle.alg_core.specs.declared.value_kind.ValueKind.TheVariants as kinds
 use Rattle.poly_text.specs.Syntax.{Term}
 use Rattle.prime_field.specs.ListedPrimes.{is_listed}
-use Rattle.certificate_io.specs.LineReadings.{power_kind, image_kind, member_kind}
-use Rattle.certificate_io.specs.PartFaults.{heading_seen, degrees_of, plain_of, marked_of, combined_of, worded_of, heading_end, module_end, evidence_begin, evidence_end, words_begin, text_end, heading_faults, module_faults, evidence_faults, generator_faults}
+use Rattle.certificate_io.specs.LineReadings.{power_kind, member_kind}
+use Rattle.certificate_io.specs.PartFaults.{heading_seen, degrees_of, plain_of, marked_of, combined_of, worded_of, heading_end, module_end, evidence_begin, evidence_end, words_begin, text_end, heading_faults, module_faults, evidence_faults, evidence_length, generator_faults}
 use Rattle.certificate_io.specs.Parts.{EvidenceTree, Images, Kernel, TextParts, power_line, image_line, member_line, evidence_lines, lines_in}
 use Rattle.certificate_io.specs.Readings.{on_line, run_fault, matrix_kind, poly_kind}
-use Rattle.certificate_io.specs.Spaces.{field_at, combination_space, word_space, plain_names, marked_names, word_names}
+use Rattle.certificate_io.specs.Spaces.{plain_names, marked_names, word_names}
 use Rattle.certificate_io.specs.Syntax.{LineTree, VersionLine, FieldLine, NamesLine, MatrixLine, OrderLine, PrimaryLine, LiftLine, RankLine, SecondaryLine, IrreducibleLine, WordLine, EndLine}
 use Rattle.certificate_io.specs.Values.{Seen, nothing_seen, tree_degree, checked, names_fault, first_fault}
 use Rattle.certificate_io.proofs.SectionFaults.{one_line, matrices_chain, primaries_chain, lifts_chain, powers_chain, secondaries_chain, images_chain, members_chain, irreducibles_chain, words_chain}
