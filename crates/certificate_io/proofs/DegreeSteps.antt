@@ -18,11 +18,12 @@ use Rattle.prime_field.specs.ListedPrimes.{is_listed}
 use Rattle.prime_field.specs.PrimeFields.{IsPrimeField}
 use Rattle.certificate_io.specs.Conditions.{IsPolynomialIn, degree_of}
 use Rattle.certificate_io.specs.PartFaults.{degrees_of, heading_seen, plain_of}
-use Rattle.certificate_io.specs.Parts.{TextParts}
-use Rattle.certificate_io.specs.ReadParts.{ArePolynomials, HasSmallTerms}
+use Rattle.certificate_io.specs.Parts.{TextParts, AreParts}
+use Rattle.certificate_io.specs.ReadParts.{ArePolynomials, HasSmallTerms, IsHeading, IsReady}
 use Rattle.certificate_io.specs.Readings.{CanRead, poly_tree}
 use Rattle.certificate_io.specs.Spaces.{field_at, plain_names}
 use Rattle.certificate_io.specs.Values.{tree_degree}
+use Rattle.certificate_io.specs.declared.values.Heading.{Heading}
 use Rattle.certificate_io.proofs.TextSpaces.{can_plain, prime_at}
 
 pub small_at : (f : List (Term ℕ (List ℕ))) (i : ℕ) (d : Term ℕ (List ℕ)) → i < length f → HasSmallTerms f → total (get_or f i d).at.mono ≤ 4096
@@ -79,3 +80,7 @@ module _ (t : TextParts) where
         let one : poly_tree S (plain_names t.names) f ≡ ts = cc in
         let others : map (poly_tree S (plain_names t.names)) fs ≡ map (λ (x : List TermTree). x) xs = cc in
         ap₂ (λ d ds. d ∷ ds) (degree_read f ts (All-head (IsPolynomialIn S (plain_names t.names)) f fs read.0) one) (degrees_read xs fs (All-tail (IsPolynomialIn S (plain_names t.names)) f fs read.0, others))
+
+-- the degrees of the members of a list that is read, in words of what is read before it
+pub told_degrees : (t : TextParts) (h : Heading) → AreParts t → IsHeading t h → IsReady h → (xs : List (List TermTree)) (fs : List (List (Term ℕ (List ℕ)))) → ArePolynomials (plain_of t) (plain_names t.names) xs fs → map degree_of fs ≡ degrees_of t xs
+told_degrees t h are is ready xs fs read = degrees_read t is.field.0 are.names.1 (subst (AllPairs (λ v w. v ≢ w)) is.names ready.distinct) xs fs read

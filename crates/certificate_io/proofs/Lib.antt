@@ -17,6 +17,7 @@ mod ClassRuns
 mod SectionRuns
 mod DegreeSteps
 mod SpaceReadings
+mod FaultChains
 pub mod LineTrees
 pub mod CertificateTrees
 mod TextSections

@@ -171,6 +171,7 @@ fn combined(
 ) -> Result<Space<PrimeField, Dp>, Memory>
     ensures is { IfOk result (λ s. over (⟦<PrimeField as Field>⟧.field) (⟦<Dp as TermOrder>⟧.order) s
         ≡ combination_space (⟦<PrimeField as Field>⟧.field field) degrees.now shifts.now) }
+    ensures positions { IfOk result (λ s. let S = over (⟦<PrimeField as Field>⟧.field) (⟦<Dp as TermOrder>⟧.order) s in HasPositions (Some (length S.shifts)) S) }
 {
     let mut weights = Vec::new(alloc);
     weights.extend_from_slice(degrees)?;
@@ -199,6 +200,7 @@ fn worded(
 ) -> Result<Variables<Dp>, Memory>
     ensures is { IfOk result (λ v. (over (⟦<PrimeField as Field>⟧.field) (⟦<Dp as TermOrder>⟧.order) v.space
         ≡ word_space (⟦<PrimeField as Field>⟧.field field) (primaries.now ++ irreducibles.now)) × (v.names ≡ word_names (length primaries.now) (length irreducibles.now))) }
+    ensures ready { IfOk result (λ v. CanRead (over (⟦<PrimeField as Field>⟧.field) (⟦<Dp as TermOrder>⟧.order) v.space) v.names) }
 {
     let mut weights = Vec::new(alloc);
     weights.extend_from_slice(primaries)?;
@@ -223,8 +225,8 @@ fn plain_polynomials(
     ensures is { (t : TextParts) → IsHeading t heading.now → (i : ℕ) (xs : List (List TermTree)) → All IsPolynomial xs → IsRun spelling i xs section.now
         → Answers result (run_fault (λ _ ts. poly_kind (plain_of t) (plain_names t.names) ts) i 0 xs) (λ v. ArePolynomials (plain_of t) (plain_names t.names) xs v.items) }
 {
-    let Variables { space, names } = plain(alloc, heading)?;
-    polynomials_of(alloc, &space, &names, section.first, section.lines)
+    let variables = plain(alloc, heading)?;
+    polynomials_of(alloc, &variables.space, &variables.names, section.first, section.lines)
 }
 
 /// The polynomials in the variables and the marks `@` of these lines.
@@ -241,8 +243,8 @@ fn marked_polynomials(
         → Answers result (run_fault (λ _ ts. poly_kind (marked_of t) (marked_names t.names (length t.primaries)) ts) i 0 xs)
         (λ v. ArePolynomials (marked_of t) (marked_names t.names (length t.primaries)) xs v.items) }
 {
-    let Variables { space, names } = marked(alloc, heading, degrees)?;
-    polynomials_of(alloc, &space, &names, section.first, section.lines)
+    let variables = marked(alloc, heading, degrees)?;
+    polynomials_of(alloc, &variables.space, &variables.names, section.first, section.lines)
 }
 
 /// The powers of the variables of these lines.
@@ -259,8 +261,8 @@ fn marked_powers(
         → Answers result (run_fault (power_kind (marked_of t) (marked_names t.names (length t.primaries))) i 0 xs)
         (λ v. ArePowers (marked_of t) (marked_names t.names (length t.primaries)) xs v.items) }
 {
-    let Variables { space, names } = marked(alloc, heading, degrees)?;
-    powers_of(alloc, &space, &names, section.first, section.lines)
+    let variables = marked(alloc, heading, degrees)?;
+    powers_of(alloc, &variables.space, &variables.names, section.first, section.lines)
 }
 
 /// The standard monomials and their averages.
@@ -278,8 +280,8 @@ fn averages(
         → (i : ℕ) (xs : List ImageTree) → All IsImageTree xs → IsRun image_text i xs section.now
         → Answers result (evidence_faults t i (trees.Images xs)) (λ e. IsEvidence t (trees.Images xs) (evidence_of e)) }
 {
-    let Variables { space, names } = plain(alloc, heading)?;
-    let images = images_of(alloc, &space, &names, combined, section.first, section.lines)?;
+    let variables = plain(alloc, heading)?;
+    let images = images_of(alloc, &variables.space, &variables.names, combined, section.first, section.lines)?;
     Ok(Evidence::Reynolds(images))
 }
 
@@ -299,8 +301,8 @@ fn members(
         → (i : ℕ) (xs : List MemberTree) → All IsMemberTree xs → IsRun member_text i xs section.now
         → Answers result (evidence_faults t i (trees.Kernel xs)) (λ e. IsEvidence t (trees.Kernel xs) (evidence_of e)) }
 {
-    let Variables { space, names } = marked(alloc, heading, degrees)?;
-    let members = members_of(alloc, &space, &names, combined, section.first, section.lines)?;
+    let variables = marked(alloc, heading, degrees)?;
+    let members = members_of(alloc, &variables.space, &variables.names, combined, section.first, section.lines)?;
     Ok(Evidence::Kernel(members))
 }
 
@@ -340,8 +342,8 @@ fn words(
         → Answers result (run_fault (λ _ ts. poly_kind (worded_of t) (word_names (length t.primaries) (length t.irreducibles)) ts) i 0 xs)
         (λ v. ArePolynomials (worded_of t) (word_names (length t.primaries) (length t.irreducibles)) xs v.items) }
 {
-    let Variables { space, names } = worded(alloc, heading.field, primaries, irreducibles)?;
-    polynomials_of(alloc, &space, &names, section.first, section.lines)
+    let variables = worded(alloc, heading.field, primaries, irreducibles)?;
+    polynomials_of(alloc, &variables.space, &variables.names, section.first, section.lines)
 }
 
 /// The first lines up to that of the order.

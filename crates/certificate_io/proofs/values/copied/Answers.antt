@@ -1,4 +1,4 @@
-use Rattle.std.proofs.Common.{◌≡◌, ◌∙◌, ◌+◌, ◌++◌, [], ◌∷◌, take, get_or, sym, ap, ap₂, subst}
+use Rattle.std.proofs.Common.{◌≡◌, ◌∙◌, ℕ, ◌+◌, List, ◌++◌, [], ◌∷◌, take, sym, ap, ap₂, subst}
 use Rattle.std.specs.Prelude.{All, IsTrue}
 use Rattle.std.proofs.lemmas.List.{take_more}
 use Rattle.std.proofs.lemmas.List.Elements.{All-nil, All-cons, All-append}
@@ -7,7 +7,7 @@ use Rattle.certificate_io.proofs.values.copied.Goals as goal
 
 pub loop-i-preserved : goal.loop-i-preserved
 loop-i-preserved c =
-    let P = λ w. IsTrue (is_name w) in
+    let P : List ℕ → Type 0 = λ w. IsTrue (is_name w) in
     let names = c.args.names.now in
     let items = c.loop-i.copies.items in
     let name = c.in_ok-name.name in
