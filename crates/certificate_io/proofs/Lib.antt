@@ -30,3 +30,6 @@ mod PrintedSections
 mod PrintedParts
 mod CertificateParts
 mod CertificateReads
+mod SectionsRead
+mod CertificateMade
+mod TextAnswers
