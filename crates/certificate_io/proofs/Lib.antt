@@ -32,3 +32,6 @@ mod PrintedSections
 mod PrintedParts
 mod CertificateParts
 mod CertificateReads
+mod SectionsRead
+mod CertificateMade
+mod TextAnswers

@@ -63,7 +63,7 @@ module _ (S : SpaceOver ℕ) (names : Names) (p : ℕ) (prime : IsPrimeField p S
   abbrev pub tree : List (CodeTerm ℕ (List ℕ)) → List Term
   tree f = tree_in p names.vars (count_of names.primaries) f
 
-  tree_same : (f : List (CodeTerm ℕ (List ℕ))) → poly_tree S names f ≡ tree f
+  pub tree_same : (f : List (CodeTerm ℕ (List ℕ))) → poly_tree S names f ≡ tree f
   tree_same f = ap (λ (k : FieldOn ℕ). map (term_in names.vars (count_of names.primaries) k.characteristic) (entries (λ m. m) f)) prime.1
 
   tree_values : (f : List (CodeTerm ℕ (List ℕ))) → IsPolynomialIn S names f
@@ -118,7 +118,7 @@ module _ (S : SpaceOver ℕ) (p : ℕ) (prime : IsPrimeField p S.field) where
   abbrev count : ℕ
   count = length S.shifts
 
-  comb_same : (c : Comb ℕ) → comb_tree S c ≡ combination_in p count c
+  pub comb_same : (c : Comb ℕ) → comb_tree S c ≡ combination_in p count c
   comb_same c = ap (λ (k : FieldOn ℕ). map (combination_term k.characteristic) (by_position count (entries (λ m. m) c.vector))) prime.1
 
   pub comb_no_fault : (c : Comb ℕ) → IsCombinationIn S c.vector → comb_kind S (combination_in p count c) ≡ None
