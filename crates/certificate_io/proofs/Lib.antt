@@ -18,6 +18,7 @@ mod SectionRuns
 mod DegreeSteps
 mod SpaceReadings
 mod FaultChains
+mod ReadAnswers
 pub mod LineTrees
 pub mod CertificateTrees
 mod TextSections

@@ -28,6 +28,10 @@ field_is p k prime = let at = prime_at p prime.0 in prime.1 ∙ gfp_same p p ref
 pub moved : (P : SpaceOver ℕ → Names → ℕ → Type 0) (S T : SpaceOver ℕ) (m n : Names) (i j : ℕ) → S ≡ T → m ≡ n → i ≡ j → P S m i → P T n j
 moved P S T m n i j p q r h = subst (P T n) r (subst (λ x. P T x i) q (subst (λ X. P X m i) p h))
 
+-- the same of three numbers
+pub numbers_moved : (P : ℕ → ℕ → ℕ → Type 0) (a b m n i j : ℕ) → a ≡ b → m ≡ n → i ≡ j → P a m i → P b n j
+numbers_moved P a b m n i j p q r h = subst (P b n) r (subst (λ x. P b x i) q (subst (λ x. P x m i) p h))
+
 pub pair_moved : (P : SpaceOver ℕ → SpaceOver ℕ → Names → ℕ → Type 0) (S T S' T' : SpaceOver ℕ) (m n : Names) (i j : ℕ) → S ≡ T → S' ≡ T' → m ≡ n → i ≡ j → P S S' m i → P T T' n j
 pair_moved P S T S' T' m n i j p p' q r h = moved (λ X y k. P X T' y k) S T m n i j p q r (subst (λ X. P S X m i) p' h)
 

@@ -20,6 +20,6 @@ mod words;
 pub use certificate::Certificate;
 pub use evidence::{Evidence, Image, Line};
 pub use fault::CertFault;
-pub use laws::lines_of_texts;
+pub use laws::{certificates_of_texts, lines_of_texts, texts_of_certificates};
 pub use print::{print_certificate, printed_length};
 pub use read::read_certificate;

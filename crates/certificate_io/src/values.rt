@@ -30,7 +30,9 @@ use crate::sections::{
     GeneratorLines, HeadingLines, ModuleLines, Section, generator_lines, heading_lines,
     module_lines,
 };
-use alg_core::{BlockOrder, Dp, Field, Grading, Memory, Mono, Monomial, Name, Space, TermOrder, ValueKind};
+use alg_core::{
+    BlockOrder, Dp, Field, Grading, Memory, Mono, Monomial, Name, Space, TermOrder, ValueKind,
+};
 use finite_certificate::Power;
 use lin_algebra::Matrix;
 use poly_module::Poly;
@@ -226,7 +228,13 @@ fn plain_polynomials(
         → Answers result (run_fault (λ _ ts. poly_kind (plain_of t) (plain_names t.names) ts) i 0 xs) (λ v. ArePolynomials (plain_of t) (plain_names t.names) xs v.items) }
 {
     let variables = plain(alloc, heading)?;
-    polynomials_of(alloc, &variables.space, &variables.names, section.first, section.lines)
+    polynomials_of(
+        alloc,
+        &variables.space,
+        &variables.names,
+        section.first,
+        section.lines,
+    )
 }
 
 /// The polynomials in the variables and the marks `@` of these lines.
@@ -244,7 +252,13 @@ fn marked_polynomials(
         (λ v. ArePolynomials (marked_of t) (marked_names t.names (length t.primaries)) xs v.items) }
 {
     let variables = marked(alloc, heading, degrees)?;
-    polynomials_of(alloc, &variables.space, &variables.names, section.first, section.lines)
+    polynomials_of(
+        alloc,
+        &variables.space,
+        &variables.names,
+        section.first,
+        section.lines,
+    )
 }
 
 /// The powers of the variables of these lines.
@@ -262,7 +276,13 @@ fn marked_powers(
         (λ v. ArePowers (marked_of t) (marked_names t.names (length t.primaries)) xs v.items) }
 {
     let variables = marked(alloc, heading, degrees)?;
-    powers_of(alloc, &variables.space, &variables.names, section.first, section.lines)
+    powers_of(
+        alloc,
+        &variables.space,
+        &variables.names,
+        section.first,
+        section.lines,
+    )
 }
 
 /// The standard monomials and their averages.
@@ -281,7 +301,14 @@ fn averages(
         → Answers result (evidence_faults t i (trees.Images xs)) (λ e. IsEvidence t (trees.Images xs) (evidence_of e)) }
 {
     let variables = plain(alloc, heading)?;
-    let images = images_of(alloc, &variables.space, &variables.names, combined, section.first, section.lines)?;
+    let images = images_of(
+        alloc,
+        &variables.space,
+        &variables.names,
+        combined,
+        section.first,
+        section.lines,
+    )?;
     Ok(Evidence::Reynolds(images))
 }
 
@@ -302,7 +329,14 @@ fn members(
         → Answers result (evidence_faults t i (trees.Kernel xs)) (λ e. IsEvidence t (trees.Kernel xs) (evidence_of e)) }
 {
     let variables = marked(alloc, heading, degrees)?;
-    let members = members_of(alloc, &variables.space, &variables.names, combined, section.first, section.lines)?;
+    let members = members_of(
+        alloc,
+        &variables.space,
+        &variables.names,
+        combined,
+        section.first,
+        section.lines,
+    )?;
     Ok(Evidence::Kernel(members))
 }
 
@@ -343,7 +377,13 @@ fn words(
         (λ v. ArePolynomials (worded_of t) (word_names (length t.primaries) (length t.irreducibles)) xs v.items) }
 {
     let variables = worded(alloc, heading.field, primaries, irreducibles)?;
-    polynomials_of(alloc, &variables.space, &variables.names, section.first, section.lines)
+    polynomials_of(
+        alloc,
+        &variables.space,
+        &variables.names,
+        section.first,
+        section.lines,
+    )
 }
 
 /// The first lines up to that of the order.
@@ -369,11 +409,7 @@ fn read_heading(alloc: Global, lines: &HeadingLines) -> Result<Heading, CertFaul
 }
 
 /// The lines after that of the order, up to that of the rank.
-fn read_module(
-    alloc: Global,
-    heading: &Heading,
-    lines: &ModuleLines,
-) -> Result<Module, CertFault>
+fn read_module(alloc: Global, heading: &Heading, lines: &ModuleLines) -> Result<Module, CertFault>
     requires ready { IsReady heading.now }
     requires room { HasModuleRoom lines.now }
     requires text { (t : TextParts) × AreParts t × IsHeading t heading.now × AreModuleLines t lines.now }

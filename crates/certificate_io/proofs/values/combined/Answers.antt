@@ -18,5 +18,5 @@ returns-clause-positions c =
     let es = c.args.shifts.now in
     subst (λ (S : SpaceOver _). HasPositions (Some (length S.shifts)) S)
     (sym (weighted (field_of c.args.field) ds es _ _ _ (c.in_ok-extend_from_slice.ensures.items ∙ ap (λ l. l ++ ds) c.new-weights.ensures.items)
-        (c.in_ok-extend_from_slice-2.ensures.items ∙ ap (λ l. l ++ ds) c.new-weights-2.ensures.items) (c.in_ok-extend_from_slice-3.ensures.items ∙ ap (λ l. l ++ es) c.new-positions.ensures.items)))
+    (c.in_ok-extend_from_slice-2.ensures.items ∙ ap (λ l. l ++ ds) c.new-weights-2.ensures.items) (c.in_ok-extend_from_slice-3.ensures.items ∙ ap (λ l. l ++ es) c.new-positions.ensures.items)))
     (has_positions (field_of c.args.field) ds es)
