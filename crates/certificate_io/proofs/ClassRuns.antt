@@ -1,5 +1,5 @@
 -- The entries of a matrix, and the classes that they print.
-use Rattle.std.proofs.Common.{◌≡◌, ◌≢◌, ◌∙◌, ℕ, ◌+◌, ◌*◌, ◌-◌, ◌<◌, ◌≤◌, Bool, true, false, List, [], ◌∷◌, ◌++◌, Option, Some, None, length, map, refl, sym, ap, ap₂, subst, append-nil, append_assoc, arith}
+use Rattle.std.proofs.Common.{◌≡◌, ◌≢◌, ◌∙◌, ℕ, ◌*◌, ◌-◌, ◌<◌, ◌≤◌, Bool, true, false, List, [], ◌∷◌, ◌++◌, Option, Some, None, length, map, refl, sym, ap, ap₂, subst, append-nil, append_assoc, arith}
 use Rattle.std.specs.Prelude.{All, ◌==◌, ◌&&◌, not, nat_le, nat_lt, if◌then◌else◌}
 use Rattle.std.specs.List.{list_all}
 use Rattle.std.specs.Option.{option_map, option_or}
@@ -9,9 +9,9 @@ use Rattle.std.proofs.lemmas.List.Elements.{All-nil, All-cons, All-head, All-tai
 use Rattle.alg_core.specs.declared.value_kind.ValueKind.TheVariants as kinds
 use Rattle.certificate_io.specs.Certificates.{MatrixOf}
 use Rattle.certificate_io.specs.Conditions.{IsSquare}
-use Rattle.certificate_io.specs.Lines.{IsCellText, IsFound, IsSplit}
+use Rattle.certificate_io.specs.Lines.{IsCellText, IsSplit}
 use Rattle.certificate_io.specs.Parts.{IsSomeOf, cell_in}
-use Rattle.certificate_io.specs.Readings.{class_of, classes_in, matrix_cells, matrix_kind, matrix_text, on_line}
+use Rattle.certificate_io.specs.Readings.{class_of, classes_in, matrix_kind, matrix_text, on_line}
 use Rattle.certificate_io.specs.Syntax.{IsCell, cell_text}
 use Rattle.certificate_io.specs.Values.{checked, is_printed_cell}
 use Rattle.certificate_io.specs.declared.words.Cell.{Cell}

@@ -1,26 +1,23 @@
 -- The degrees of polynomials in the variables, and those that their texts tell.
-use Rattle.std.proofs.Common.{◌≡◌, ◌≢◌, ◌∙◌, ℕ, zero, suc, ◌+◌, ◌<◌, ◌≤◌, true, List, [], ◌∷◌, None, length, map, get_or, replicate, refl, sym, ap, ap₂, subst, arith}
+use Rattle.std.proofs.Common.{◌≡◌, ◌≢◌, ◌∙◌, ℕ, zero, suc, ◌<◌, ◌≤◌, true, List, [], ◌∷◌, None, length, map, get_or, replicate, refl, sym, ap, ap₂, subst, arith}
 use Rattle.std.specs.Prelude.{All, AllPairs, IsTrue}
 use Rattle.std.proofs.lemmas.List.{get_or-map, length-map, length-replicate}
 use Rattle.std.proofs.lemmas.List.Elements.{All-nil, All-cons, All-head, All-tail}
 use Rattle.alg_core.specs.DpOrder.{weighted_degree}
 use Rattle.alg_core.specs.Names.{is_name}
-use Rattle.alg_core.specs.PolynomialSpaces.{plain_space}
-use Rattle.alg_core.specs.Spaces.{SpaceOver, IsTerm, Fits, entries, entry}
+use Rattle.alg_core.specs.Spaces.{SpaceOver, Fits, entries, entry}
 use Rattle.alg_core.specs.Vectors.{Entry}
 use Rattle.alg_core.specs.declared.term.Term.{Term}
 use Rattle.poly_module.specs.GreatestExponents.{total, greatest}
 use Rattle.poly_text.specs.Syntax.{Term as TermTree}
-use Rattle.poly_text.specs.Texts.{term_of}
 use Rattle.poly_text.specs.Values.{IsReadable, entry_of}
 use Rattle.poly_text.proofs.PrintedLaws.{printed_values}
 use Rattle.prime_field.specs.ListedPrimes.{is_listed}
-use Rattle.prime_field.specs.PrimeFields.{IsPrimeField}
 use Rattle.certificate_io.specs.Conditions.{IsPolynomialIn, degree_of}
 use Rattle.certificate_io.specs.PartFaults.{degrees_of, heading_seen, plain_of}
 use Rattle.certificate_io.specs.Parts.{TextParts, AreParts}
 use Rattle.certificate_io.specs.ReadParts.{ArePolynomials, HasSmallTerms, IsHeading, IsReady}
-use Rattle.certificate_io.specs.Readings.{CanRead, poly_tree}
+use Rattle.certificate_io.specs.Readings.{poly_tree}
 use Rattle.certificate_io.specs.Spaces.{field_at, plain_names}
 use Rattle.certificate_io.specs.Values.{tree_degree}
 use Rattle.certificate_io.specs.declared.values.Heading.{Heading}

@@ -1,5 +1,5 @@
 -- The words of a line tell the line, where its kind is known; so a text has one list of lines.
-use Rattle.std.proofs.Common.{◌≡◌, ◌≢◌, ◌∙◌, ℕ, ◌+◌, ◌<◌, ◌≤◌, ◌^◌, Bool, true, false, List, [], ◌∷◌, ◌++◌, Option, Some, None, length, map, get_or, refl, sym, ap, ap₂, subst, arith}
+use Rattle.std.proofs.Common.{◌≡◌, ◌≢◌, ◌∙◌, ℕ, ◌≤◌, Bool, true, false, List, [], ◌∷◌, ◌++◌, Option, Some, None, map, get_or, refl, sym, ap, ap₂, arith}
 use Rattle.std.specs.Prelude.{All, decimal, ◌==◌, if◌then◌else◌}
 use Rattle.std.proofs.lemmas.Bool.{ne_eqb}
 use Rattle.std.proofs.lemmas.List.{append-nil}
@@ -9,13 +9,13 @@ use Rattle.poly_text.specs.Syntax.{Factor, Term, IsFactor, IsTerm, IsText, monom
 use Rattle.poly_text.specs.Syntax as polynomials
 use Rattle.poly_text.proofs.Scans.{text_scanned}
 use Rattle.certificate_io.specs.Lines.{after, head, words}
-use Rattle.certificate_io.specs.Syntax.{LineTree, VersionLine, FieldLine, NamesLine, MatrixLine, OrderLine, PrimaryLine, LiftLine, PowerLine, RankLine, SecondaryLine, ReynoldsLine, KernelLine, ImageLine, MovedLine, FixedLine, IrreducibleLine, WordLine, EndLine, IsCell, IsBetween, IsLine, IsPolynomial, IsText as IsLines, cell_text, kind_of, line_text, spelling}
+use Rattle.certificate_io.specs.Syntax.{LineTree, VersionLine, FieldLine, NamesLine, MatrixLine, OrderLine, PrimaryLine, LiftLine, PowerLine, RankLine, SecondaryLine, ReynoldsLine, KernelLine, ImageLine, MovedLine, FixedLine, IrreducibleLine, WordLine, EndLine, IsCell, IsLine, IsPolynomial, IsText as IsLines, cell_text, kind_of, line_text, spelling}
 use Rattle.certificate_io.specs.Texts.{spaced}
 use Rattle.certificate_io.specs.declared.line_kind.LineKind.{LineKind}
 use Rattle.certificate_io.specs.declared.line_kind.LineKind.TheVariants as kinds
 use Rattle.certificate_io.specs.declared.words.Cell.{Cell}
 use Rattle.certificate_io.proofs.DigitSteps.{number_in, number_back, first_digit}
-use Rattle.certificate_io.proofs.LineWords.{IsPlain, head_plain, words_plain, line_parts, line_unbroken}
+use Rattle.certificate_io.proofs.LineWords.{IsPlain, head_plain, words_plain, line_parts}
 use Rattle.certificate_io.proofs.Shapes.{one_kind, heads, not_empty, spelled_cons}
 use Rattle.certificate_io.proofs.Splits.{rest_of, spaced_after, split_one}
 

@@ -1,11 +1,10 @@
 -- What the calls on the lines of powers, averages and members of the kernel tell.
-use Rattle.std.proofs.Common.{◌≡◌, ◌≢◌, ◌∙◌, ℕ, ◌≤◌, ◌<◌, ◌^◌, Bool, true, false, List, [], ◌∷◌, ◌++◌, Option, Some, None, length, map, refl, sym, ap, ap₂, subst, append-nil, arith}
-use Rattle.std.specs.Prelude.{All, IsTrue, decimal, nat_le}
+use Rattle.std.proofs.Common.{◌≡◌, ◌≢◌, ◌∙◌, ℕ, ◌≤◌, ◌<◌, ◌^◌, true, false, List, [], ◌∷◌, Option, Some, None, map, refl, sym, ap, subst, append-nil, arith}
+use Rattle.std.specs.Prelude.{All, decimal, nat_le}
 use Rattle.std.specs.Option.{option_map, option_or}
 use Rattle.std.proofs.lemmas.Bool.{lt-leb, le-leb}
 use Rattle.std.proofs.lemmas.Fmt.{decimal_injective}
 use Rattle.std.proofs.lemmas.List.Elements.{All-nil, All-cons}
-use Rattle.alg_core.specs.Names.{is_name}
 use Rattle.alg_core.specs.Spaces.{SpaceOver, IsPlace}
 use Rattle.alg_core.specs.Vectors.{Entry}
 use Rattle.alg_core.specs.declared.value_kind.ValueKind.{ValueKind}
@@ -13,7 +12,7 @@ use Rattle.alg_core.specs.declared.value_kind.ValueKind.TheVariants as kinds
 use Rattle.prime_field.specs.PrimeFields.{IsPrimeField}
 use Rattle.poly_text.specs.Syntax.{Factor, Term, IsFactor, IsTerm, IsText, IsMonomialText, monomial_term, product_text, spelling}
 use Rattle.poly_text.specs.Texts.{factors_from, variable_at, monomial_in, term_of}
-use Rattle.poly_text.specs.Values.{first_fault, IsReadable}
+use Rattle.poly_text.specs.Values.{IsReadable}
 use Rattle.poly_text.specs.declared.names.Names.{Names}
 use Rattle.poly_text.proofs.MonomialSteps.{unit_fits, unit_all, unit_printed}
 use Rattle.poly_text.proofs.PrintedLaws.{printed_values}

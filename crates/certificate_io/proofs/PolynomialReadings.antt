@@ -1,5 +1,5 @@
 -- What the calls on polynomial texts tell of a text's tree.
-use Rattle.std.proofs.Common.{◌≡◌, ◌∙◌, ℕ, List, [], ◌∷◌, Option, Some, None, length, map, refl, sym, ap, subst}
+use Rattle.std.proofs.Common.{◌≡◌, ◌∙◌, ℕ, List, [], ◌∷◌, Option, Some, None, length, map, refl, sym, ap}
 use Rattle.std.specs.Prelude.{All}
 use Rattle.std.specs.Option.{option_map}
 use Rattle.std.proofs.lemmas.List.Elements.{All-nil, All-cons, All-head, All-tail}
@@ -12,7 +12,7 @@ use Rattle.poly_module.specs.declared.vector.Comb.{Comb}
 use Rattle.poly_text.specs.Faults.{IsTextFault}
 use Rattle.poly_text.specs.Syntax.{Term, IsText, IsTerm}
 use Rattle.poly_text.specs.Texts.{by_position, polynomial_text, combination_term, combination_text}
-use Rattle.poly_text.specs.Values.{first_fault, mark_names, IsFault, IsReadableTerm}
+use Rattle.poly_text.specs.Values.{first_fault, IsFault, IsReadableTerm}
 use Rattle.poly_text.specs.declared.fault.TextFault.{TextFault}
 use Rattle.poly_text.specs.declared.fault.TextFault.TheVariants as texts
 use Rattle.poly_text.specs.declared.names.Names.{Names}
@@ -22,7 +22,7 @@ use Rattle.poly_text.proofs.CombinationReads.{mark_printed}
 use Rattle.poly_text.proofs.PositionParts.{by_all, by_terms}
 use Rattle.poly_text.proofs.Scans.{text_unique}
 use Rattle.certificate_io.specs.Conditions.{IsPolynomialIn, IsCombinationIn}
-use Rattle.certificate_io.specs.Readings.{fault_on, AnswersFault, Answers, on_line, poly_tree, comb_tree, poly_kind, comb_kind, CanRead}
+use Rattle.certificate_io.specs.Readings.{fault_on, AnswersFault, on_line, poly_tree, comb_tree, poly_kind, comb_kind, CanRead}
 use Rattle.certificate_io.specs.Values.{kind_of_fault}
 
 -- a fault of the text is that of its tree

@@ -10,7 +10,7 @@
 --   module_trees, generator_trees t    the lines after that of the order, after that of the rank
 --   IsRun C text i xs s    the section has the lines C x, from the line i on, and text says what follows their first words
 --   AreHeadingLines, AreModuleLines, AreGeneratorLines t s    the sections are those of the parts of the text
-use Rattle.std.specs.Prelude.{◌≡◌, ◌≢◌, ◌<◌, ℕ, ◌+◌, ◌^◌, Bool, true, false, List, [], ◌∷◌, ◌++◌, length, map, All, decimal}
+use Rattle.std.specs.Prelude.{◌≡◌, ◌≢◌, ◌<◌, ℕ, ◌+◌, ◌^◌, Bool, true, false, List, [], ◌∷◌, ◌++◌, length, map, decimal}
 use Rattle.poly_text.specs.Syntax.{spelling}
 use Rattle.certificate_io.specs.Lines.{joined, line_of, shown}
 use Rattle.certificate_io.specs.PartFaults.{heading_end, module_end, evidence_begin, evidence_end, words_begin, text_end}

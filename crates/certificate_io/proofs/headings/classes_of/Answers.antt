@@ -1,4 +1,4 @@
-use Rattle.std.proofs.Common.{◌≡◌, Some, sym, ap, subst}
+use Rattle.std.proofs.Common.{Some, sym, ap, subst}
 use Rattle.certificate_io.specs.Lines.{bytes_at}
 use Rattle.certificate_io.proofs.ClassRuns.{CellsLeft, cells_begin, no_entry, entry_stops, entry_more, entries_end}
 use Rattle.certificate_io.proofs.headings.classes_of.Goals as goal

@@ -1,10 +1,7 @@
-use Rattle.std.proofs.Common.{◌≡◌, ◌∙◌, ℕ, ◌*◌, List, length, map, sym, ap}
+use Rattle.std.proofs.Common.{◌∙◌, ℕ, map, sym, ap}
 use Rattle.std.specs.Option.{option_map}
 use Rattle.std.specs.Global.{Vec}
-use Rattle.certificate_io.specs.Parts.{IsSomeOf}
-use Rattle.certificate_io.specs.Readings.{matrix_text}
-use Rattle.certificate_io.specs.Syntax.{IsCell, cell_text}
-use Rattle.certificate_io.specs.declared.words.Cell.{Cell}
+use Rattle.certificate_io.specs.Syntax.{cell_text}
 use Rattle.certificate_io.proofs.ClassRuns.{size_fault, class_fault, matrix_read, entries_free, entries_counted}
 use Rattle.certificate_io.proofs.headings.matrix.Goals as goal
 

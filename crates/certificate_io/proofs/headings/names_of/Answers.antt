@@ -1,4 +1,4 @@
-use Rattle.std.proofs.Common.{◌≡◌, ◌∙◌, ℕ, List, [], ◌∷◌, ◌++◌, Some, IsTrue, sym, ap, subst}
+use Rattle.std.proofs.Common.{◌∙◌, [], ◌∷◌, ◌++◌, Some, IsTrue, sym, ap, subst}
 use Rattle.alg_core.specs.Names.{is_name}
 use Rattle.certificate_io.specs.Lines.{bytes_at}
 use Rattle.certificate_io.proofs.LineWords.{name_plain}

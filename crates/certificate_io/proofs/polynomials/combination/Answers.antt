@@ -1,4 +1,4 @@
-use Rattle.std.proofs.Common.{refl, subst, sym, ap, length, Some}
+use Rattle.std.proofs.Common.{refl, subst, sym, length, Some}
 use Rattle.alg_core.specs.Spaces.{over}
 use Rattle.poly_text.specs.Values.{mark_names}
 use Rattle.poly_text.proofs.EntrySteps.{field_of}

@@ -1,4 +1,4 @@
-use Rattle.std.proofs.Common.{◌≡◌, [], ◌∷◌, ap, ap₂}
+use Rattle.std.proofs.Common.{◌≡◌, [], ◌∷◌, ap₂}
 use Rattle.alg_core.specs.Spaces.{over}
 use Rattle.poly_text.specs.Syntax.{monomial_term, spelling}
 use Rattle.poly_text.proofs.EntrySteps.{field_of}

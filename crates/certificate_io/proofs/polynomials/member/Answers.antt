@@ -3,7 +3,6 @@ use Rattle.alg_core.specs.Spaces.{over}
 use Rattle.poly_text.proofs.EntrySteps.{field_of}
 use Rattle.certificate_io.specs.Lines.{bytes_at}
 use Rattle.certificate_io.specs.LineReadings.{member_kind, comb_kind_of, member_tree, IsMemberIn}
-use Rattle.certificate_io.specs.Parts.{MemberTree}
 use Rattle.certificate_io.specs.Readings.{on_line, poly_kind}
 use Rattle.certificate_io.proofs.PartReadings.{first_of_two, second_of_two, both_pass, member_split, member_of}
 use Rattle.certificate_io.proofs.ReadingRuns.{error_answers}

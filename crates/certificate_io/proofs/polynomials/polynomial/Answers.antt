@@ -1,4 +1,4 @@
-use Rattle.std.proofs.Common.{refl, subst, sym, ap}
+use Rattle.std.proofs.Common.{refl, subst, sym}
 use Rattle.alg_core.specs.Spaces.{over}
 use Rattle.poly_text.proofs.EntrySteps.{field_of}
 use Rattle.certificate_io.specs.Readings.{AnswersFault, on_line, poly_kind}

@@ -1,11 +1,11 @@
-use Rattle.std.proofs.Common.{subst, sym, ap, ◌∙◌, ◌++◌, ◌∷◌, [], List, ◌+◌, ◌≤◌, ℕ}
+use Rattle.std.proofs.Common.{subst, sym, ◌+◌, ◌≤◌, ℕ}
 use Rattle.alg_core.specs.Spaces.{over}
 use Rattle.poly_text.specs.Syntax.{spelling}
 use Rattle.poly_text.proofs.EntrySteps.{field_of}
 use Rattle.certificate_io.specs.Conditions.{IsPolynomialIn}
 use Rattle.certificate_io.specs.Readings.{AreReadBy, poly_tree, poly_kind, run_fault}
 use Rattle.certificate_io.specs.Syntax.{IsPolynomial}
-use Rattle.certificate_io.proofs.ReadingRuns.{ReadsLines, error_answers, memory_answers, part_at, lines_begin, lines_more, lines_fault, lines_end, lines_length}
+use Rattle.certificate_io.proofs.ReadingRuns.{ReadsLines, error_answers, part_at, lines_begin, lines_more, lines_fault, lines_end, lines_length}
 use Rattle.certificate_io.proofs.polynomials.polynomials_of.Goals as goal
 
 pub loop-i-init : goal.loop-i-init

@@ -1,4 +1,4 @@
-use Rattle.std.proofs.Common.{◌≡◌, ◌∙◌, ℕ, ◌≤◌, ◌<◌, List, [], ◌∷◌, sym, ap, ap₂, subst}
+use Rattle.std.proofs.Common.{◌≡◌, ◌∙◌, ℕ, ◌≤◌, ◌<◌, [], ◌∷◌, sym, ap, ap₂, subst}
 use Rattle.std.specs.Prelude.{decimal}
 use Rattle.alg_core.specs.Spaces.{over}
 use Rattle.poly_text.specs.Syntax.{spelling}

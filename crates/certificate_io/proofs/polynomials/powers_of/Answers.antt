@@ -1,10 +1,10 @@
-use Rattle.std.proofs.Common.{subst, sym, ap, ◌∙◌, ◌++◌, ◌∷◌, [], List, ◌+◌, ◌≤◌, ℕ}
+use Rattle.std.proofs.Common.{subst, sym, ◌+◌, ◌≤◌, ℕ}
 use Rattle.alg_core.specs.Spaces.{over}
 use Rattle.poly_text.proofs.EntrySteps.{field_of}
 use Rattle.certificate_io.specs.LineReadings.{power_kind, power_parts, power_said, IsPowerIn}
-use Rattle.certificate_io.specs.Parts.{PowerTree, IsPowerTree}
+use Rattle.certificate_io.specs.Parts.{IsPowerTree}
 use Rattle.certificate_io.specs.Readings.{AreReadBy, run_fault, power_text}
-use Rattle.certificate_io.proofs.ReadingRuns.{ReadsLines, error_answers, memory_answers, part_at, lines_begin, lines_more, lines_fault, lines_end, lines_length}
+use Rattle.certificate_io.proofs.ReadingRuns.{ReadsLines, error_answers, part_at, lines_begin, lines_more, lines_fault, lines_end, lines_length}
 use Rattle.certificate_io.proofs.polynomials.powers_of.Goals as goal
 
 pub loop-i-init : goal.loop-i-init

@@ -1,4 +1,4 @@
-use Rattle.std.proofs.Common.{◌≡◌, ap, map, subst}
+use Rattle.std.proofs.Common.{subst}
 use Rattle.std.specs.Prelude.{Ok}
 use Rattle.certificate_io.specs.Readings.{AnswersFault}
 use Rattle.certificate_io.specs.Values.{first_fault, nothing_seen}

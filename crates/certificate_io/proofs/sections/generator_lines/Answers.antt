@@ -1,4 +1,4 @@
-use Rattle.std.proofs.Common.{◌≡◌, ◌∙◌, ℕ, ◌+◌, List, [], ◌∷◌, ◌++◌, length, map, refl, subst, append-nil, arith}
+use Rattle.std.proofs.Common.{◌≡◌, ℕ, ◌+◌, List, [], ◌∷◌, ◌++◌, length, map, refl, subst, append-nil, arith}
 use Rattle.std.specs.Prelude.{All}
 use Rattle.poly_text.specs.Syntax.{spelling}
 use Rattle.certificate_io.specs.PartFaults.{module_end, evidence_begin, evidence_end, evidence_length, words_begin, text_end}

@@ -1,8 +1,8 @@
-use Rattle.std.proofs.Common.{◌≡◌, ◌∙◌, ℕ, ◌+◌, Some, length, map, sym, ap, ap₂, subst, rules}
+use Rattle.std.proofs.Common.{◌≡◌, ◌∙◌, ◌+◌, Some, length, map, sym, ap, subst, rules}
 use Rattle.std.specs.Prelude.{All}
 use Rattle.alg_core.specs.declared.value_kind.ValueKind.TheVariants as kinds
 use Rattle.certificate_io.specs.Conditions.{degree_of}
-use Rattle.certificate_io.specs.PartFaults.{plain_of, worded_of, module_end, evidence_begin, evidence_end, words_begin, text_end, generator_faults}
+use Rattle.certificate_io.specs.PartFaults.{plain_of, worded_of, module_end, evidence_begin, evidence_end, words_begin, generator_faults}
 use Rattle.certificate_io.specs.ReadParts.{HasSmallTerms, AreGenerators}
 use Rattle.certificate_io.specs.Readings.{poly_tree}
 use Rattle.certificate_io.specs.Spaces.{plain_names, word_names}

@@ -1,4 +1,4 @@
-use Rattle.std.proofs.Common.{◌≡◌, ◌≢◌, ◌∙◌, ◌≤◌, ℕ, None, List, length, sym, ap, ap₂, subst, rules}
+use Rattle.std.proofs.Common.{◌≡◌, ◌≢◌, ◌∙◌, ◌≤◌, ℕ, None, List, length, sym, ap, subst, rules}
 use Rattle.std.specs.Prelude.{AllPairs}
 use Rattle.std.specs.Option.{option_or}
 use Rattle.prime_field.specs.ListedPrimes.{is_listed}

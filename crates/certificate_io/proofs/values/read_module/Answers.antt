@@ -1,10 +1,9 @@
-use Rattle.std.proofs.Common.{◌≡◌, ◌∙◌, ℕ, ◌+◌, ◌<◌, ◌≤◌, Some, length, map, sym, ap, ap₂, subst, rules}
+use Rattle.std.proofs.Common.{◌≡◌, ◌∙◌, ℕ, ◌+◌, ◌<◌, ◌≤◌, Some, length, map, sym, ap, subst, rules}
 use Rattle.std.specs.Prelude.{All}
-use Rattle.std.proofs.lemmas.List.{length-map}
 use Rattle.alg_core.specs.declared.value_kind.ValueKind.TheVariants as kinds
 use Rattle.certificate_io.specs.Conditions.{degree_of}
 use Rattle.certificate_io.specs.LineReadings.{power_parts, power_said}
-use Rattle.certificate_io.specs.PartFaults.{heading_end, marked_of, module_end, module_faults}
+use Rattle.certificate_io.specs.PartFaults.{heading_end, marked_of, module_faults}
 use Rattle.certificate_io.specs.ReadParts.{HasSmallTerms, IsModule}
 use Rattle.certificate_io.specs.Spaces.{marked_names}
 use Rattle.certificate_io.proofs.DegreeSteps.{small_read, told_degrees}
