@@ -14,7 +14,7 @@
 --   combination_in p m c   the tree that the combination c of m secondary invariants prints
 --   power_in, image_in, member_in, evidence_in   those of the parts of a certificate
 --   parts_of c             the parts of the lines that the certificate c prints
-use Rattle.std.specs.Prelude.{◌≡◌, ℕ, List, [], ◌∷◌, ◌++◌, length, map, All, Option, Some, None, IfSome, IsTrue}
+use Rattle.std.specs.Prelude.{ℕ, List, [], ◌∷◌, ◌++◌, length, map, All, Option, Some, None, IfSome, IsTrue}
 use Rattle.std.specs.List.{zip}
 use Rattle.std.specs.Option.{option_map}
 use Rattle.alg_core.specs.Names.{is_name}
