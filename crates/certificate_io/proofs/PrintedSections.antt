@@ -5,7 +5,7 @@ use Rattle.std.specs.List.{zip}
 use Rattle.std.specs.Option.{option_map, option_or}
 use Rattle.std.specs.Str.{bytes_eq}
 use Rattle.std.proofs.lemmas.Bool.{and_from, eq-eqb, le-leb, lt-ltb}
-use Rattle.std.proofs.lemmas.List.{length-map, length-append}
+use Rattle.std.proofs.lemmas.List.{get_or_at, length-map, length-append}
 use Rattle.std.proofs.lemmas.List.Elements.{All-nil, All-cons, All-head, All-tail}
 use Rattle.alg_core.specs.Names.{is_name}
 use Rattle.alg_core.specs.Spaces.{SpaceOver}
@@ -80,14 +80,10 @@ module _ (S : SpaceOver ℕ) (names : Names) (p : ℕ) (prime : IsPrimeField p S
       (powers_are vs xs (All-tail (λ w. IsTrue (is_name w)) v vs named) (All-tail (IsPowerIn S names) x xs all))
 
   -- the name at the place of a power is its name
-  at_front : (pre vs : List (List ℕ)) (v : List ℕ) → get_or (pre ++ (v ∷ vs)) (length pre) [] ≡ v
-  at_front [] vs v = refl
-  at_front (u ∷ pre) vs v = at_front pre vs v
-
   named_at : (pre vs : List (List ℕ)) (v : List ℕ) → is_name_at (pre ++ (v ∷ vs)) (length pre) v ≡ true
   named_at pre vs v =
       let all : length (pre ++ (v ∷ vs)) ≡ length pre + length (v ∷ vs) = length-append pre (v ∷ vs) in
-      and_from (nat_lt (length pre) (length (pre ++ (v ∷ vs)))) (bytes_eq v (get_or (pre ++ (v ∷ vs)) (length pre) [])) (lt-ltb (length pre) (length (pre ++ (v ∷ vs))) (omega (arith, all))) (ap (bytes_eq v) (at_front pre vs v) ∙ same_bytes v)
+      and_from (nat_lt (length pre) (length (pre ++ (v ∷ vs)))) (bytes_eq v (get_or (pre ++ (v ∷ vs)) (length pre) [])) (lt-ltb (length pre) (length (pre ++ (v ∷ vs))) (omega (arith, all))) (ap (bytes_eq v) (get_or_at pre v vs [] (length pre) refl) ∙ same_bytes v)
 
   power_passes : (pre vs : List (List ℕ)) (v : List ℕ) (x : Power ℕ) → names.vars ≡ pre ++ (v ∷ vs) → IsPowerIn S names x → power_kind S names (length pre) (power (v, x)) ≡ None
   power_passes pre vs v x are one =

@@ -5,7 +5,7 @@ use Rattle.std.specs.List.{zip}
 use Rattle.std.specs.Option.{option_map, option_or}
 use Rattle.std.specs.Str.{bytes_eq}
 use Rattle.std.proofs.lemmas.Bool.{and_parts, ltb-true}
-use Rattle.std.proofs.lemmas.List.{length-map, length-append, map-id}
+use Rattle.std.proofs.lemmas.List.{get_or_at, length-map, length-append, map-id}
 use Rattle.std.proofs.lemmas.Slice.Eq.{bytes_eq-Decides}
 use Rattle.alg_core.specs.Spaces.{SpaceOver}
 use Rattle.alg_core.specs.declared.term.Term.{Term as CodeTerm}
@@ -70,10 +70,6 @@ module _ (S : SpaceOver ℕ) (names : Names) (p : ℕ) (prime : IsPrimeField p S
       let parts = and_parts (nat_lt k (length names.vars)) (bytes_eq x.name (get_or names.vars k [])) (holds_of_checked kinds.Power (is_name_at names.vars k x.name) found.0) in
       (ltb-true k (length names.vars) parts.0, (bytes_eq-Decides x.name (get_or names.vars k [])).0 parts.1)
 
-  at_front : (pre vs : List (List ℕ)) (v : List ℕ) → get_or (pre ++ (v ∷ vs)) (length pre) [] ≡ v
-  at_front [] vs v = refl
-  at_front (u ∷ pre) vs v = at_front pre vs v
-
   powers_from : (i : ℕ) (pre vs : List (List ℕ)) (xs : List PowerTree) (ws : List (Power ℕ)) → names.vars ≡ pre ++ vs → run_fault (power_kind S names) i (length pre) xs ≡ None → length vs ≤ length xs
       → map (power_parts S names) ws ≡ map power_said xs → (length ws ≡ length vs) × (map power (zip vs ws) ≡ xs)
   powers_from i pre [] [] [] are passed low same = (refl, refl)
@@ -87,7 +83,7 @@ module _ (S : SpaceOver ℕ) (names : Names) (p : ℕ) (prime : IsPrimeField p S
   powers_from i pre (v ∷ vs) (x ∷ xs) [] are passed low same = absurd cc
   powers_from i pre (v ∷ vs) (x ∷ xs) (w ∷ ws) are passed low same =
       let found = both_none i (power_kind S names (length pre) x) (run_fault (power_kind S names) (suc i) (suc (length pre)) xs) passed in
-      let named : x.name ≡ v = (named_at (length pre) x found.0).1 ∙ ap (λ l. get_or l (length pre) []) are ∙ at_front pre vs v in
+      let named : x.name ≡ v = (named_at (length pre) x found.0).1 ∙ ap (λ l. get_or l (length pre) []) are ∙ get_or_at pre v vs [] (length pre) refl in
       let next : suc (length pre) ≡ length (pre ++ (v ∷ [])) = omega (arith, length-append pre (v ∷ [])) in
       let first : power_parts S names w ≡ power_said x = cc in
       let others : map (power_parts S names) ws ≡ map power_said xs = cc in

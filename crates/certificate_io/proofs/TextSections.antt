@@ -234,11 +234,11 @@ Order = Single OrderLine (IsBetween 999999999999999999) Primaries
 abbrev pub Matrices : List LineTree → Type 0
 Matrices = Section MatrixLine (IsSomeOf (IsSomeOf IsCell)) Order
 
-abbrev pub NamesThen : List LineTree → Type 0
-NamesThen = Single NamesLine (IsSomeOf (λ w. IsTrue (is_name w))) Matrices
+abbrev pub Names : List LineTree → Type 0
+Names = Single NamesLine (IsSomeOf (λ w. IsTrue (is_name w))) Matrices
 
-abbrev pub FieldThen : List LineTree → Type 0
-FieldThen = Single FieldLine (IsBetween 99999) NamesThen
+abbrev pub Field : List LineTree → Type 0
+Field = Single FieldLine (IsBetween 99999) Names
 
 end_from : (l : LineTree) (ls : List LineTree) → AreFrom l ls → Contains (kinds.End ∷ []) (kind_of l) → EndLine ∷ [] ≡ l ∷ ls
 end_from l [] h c = ap (λ x. x ∷ []) (made_end l (only_one kinds.End (kind_of l) c))
@@ -338,12 +338,12 @@ order_from l ls h c =
 matrices_from : (l : LineTree) (ls : List LineTree) → AreFrom l ls → Contains (kinds.Matrix ∷ []) (kind_of l) → Matrices (l ∷ ls)
 matrices_from l ls h c = run_of MatrixLine (IsSomeOf IsCell) kinds.Matrix (kinds.Order ∷ []) Order made_matrix refl (λ e. absurd cc) order_from l ls (only_one kinds.Matrix (kind_of l) c) h
 
-names_from : (l : LineTree) (ls : List LineTree) → AreFrom l ls → Contains (kinds.Names ∷ []) (kind_of l) → NamesThen (l ∷ ls)
+names_from : (l : LineTree) (ls : List LineTree) → AreFrom l ls → Contains (kinds.Names ∷ []) (kind_of l) → Names (l ∷ ls)
 names_from l ls h c =
     one_of NamesLine (IsSomeOf (λ w. IsTrue (is_name w))) kinds.Names (kinds.Matrix ∷ []) Matrices made_names refl (λ e. absurd cc) matrices_from l ls (only_one kinds.Names (kind_of l) c) h
 
-field_from : (l : LineTree) (ls : List LineTree) → AreFrom l ls → Contains (kinds.Field ∷ []) (kind_of l) → FieldThen (l ∷ ls)
-field_from l ls h c = one_of FieldLine (IsBetween 99999) kinds.Field (kinds.Names ∷ []) NamesThen made_field refl (λ e. absurd cc) names_from l ls (only_one kinds.Field (kind_of l) c) h
+field_from : (l : LineTree) (ls : List LineTree) → AreFrom l ls → Contains (kinds.Field ∷ []) (kind_of l) → Field (l ∷ ls)
+field_from l ls h c = one_of FieldLine (IsBetween 99999) kinds.Field (kinds.Names ∷ []) Names made_field refl (λ e. absurd cc) names_from l ls (only_one kinds.Field (kind_of l) c) h
 
 -- the parts of the lines of a text
 pub record HasParts (ls : List LineTree) : Type 0 where
@@ -351,7 +351,7 @@ pub record HasParts (ls : List LineTree) : Type 0 where
   pub are : AreParts parts
   pub whole : lines_in parts ≡ ls
 
-parts_from : (rest : List LineTree) → FieldThen rest → HasParts (VersionLine ∷ rest)
+parts_from : (rest : List LineTree) → Field rest → HasParts (VersionLine ∷ rest)
 unfolding lines_in
 parts_from rest f =
     let n = f.after in

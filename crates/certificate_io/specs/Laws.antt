@@ -1,4 +1,4 @@
--- Laws of the texts of certificates: each is to be the clause of a public function with an empty body.
+-- Laws of the texts of certificates: each is the clause of a public function with an empty body.
 --
 --   LinesAreOne            a text has one list of lines
 --   CertificatesAreOne     certificates with one text are the same
