@@ -1,3 +1,16 @@
 pub mod Certificates
 pub mod Texts
 pub mod Printable
+pub mod Syntax
+pub mod Lines
+pub mod Spaces
+pub mod Values
+pub mod Faults
+pub mod Conditions
+pub mod Parts
+pub mod Readings
+pub mod LineReadings
+pub mod PartFaults
+pub mod Sections
+pub mod ReadParts
+pub mod Laws

@@ -10,10 +10,10 @@ pub mod EntrySteps
 pub mod TermSteps
 pub mod DigitLaws
 mod MonomialTexts
-mod MonomialSteps
+pub mod MonomialSteps
 pub mod OutputLaws
 pub mod PositionLaws
-mod PositionParts
+pub mod PositionParts
 pub mod SpellingLaws
 pub mod CombinationTerms
 pub mod VariablePlaces
@@ -21,6 +21,6 @@ pub mod PrintedFactors
 pub mod PrintedValues
 pub mod PrintedLaws
 mod CombinationFactors
-mod CombinationReads
-mod CombinationLaws
+pub mod CombinationReads
+pub mod CombinationLaws
 pub mod ReadLaws
