@@ -108,13 +108,13 @@ module _ (t : TextParts) (are : AreParts t) (listed : is_listed t.characteristic
   degrees_read xs fs read = ap (degrees_of t) (sym (trees_plain xs fs read)) ∙ degrees_from fs read.0
 
   in_primaries : length d.primaries ≡ r
-  in_primaries = read_length _ d.primaries t.primaries read.primaries.1
+  in_primaries = read_length _ _ d.primaries t.primaries read.primaries.1
 
   in_secondaries : length d.secondaries ≡ length t.secondaries
-  in_secondaries = read_length _ d.secondaries t.secondaries read.secondaries.1
+  in_secondaries = read_length _ _ d.secondaries t.secondaries read.secondaries.1
 
   in_irreducibles : length d.irreducibles ≡ length t.irreducibles
-  in_irreducibles = read_length _ d.irreducibles t.irreducibles read.irreducibles.1
+  in_irreducibles = read_length _ _ d.irreducibles t.irreducibles read.irreducibles.1
 
   primary_degrees : degrees_of t t.primaries ≡ map degree_of d.primaries
   primary_degrees = degrees_read t.primaries d.primaries read.primaries
@@ -144,7 +144,7 @@ module _ (t : TextParts) (are : AreParts t) (listed : is_listed t.characteristic
       let after_evidence = (none_of_two evidence from_irreducibles (none_of_two secondaries (option_or evidence from_irreducibles) no_generator_fault).1).1 in
       let after_words = (none_of_two words count (none_of_two irreducibles (option_or words count) after_evidence).1).1 in
       let same : length t.words ≡ length t.secondaries = eqb-true (length t.words) (length t.secondaries) (holds_of_checked kinds.Count (length t.words == length t.secondaries) (line_passes (text_end t) _ after_words)) in
-      read_length _ d.words t.words read.words.1 ∙ same ∙ sym in_secondaries
+      read_length _ _ d.words t.words read.words.1 ∙ same ∙ sym in_secondaries
 
   -- the parts that it prints
   evidence_read : (x : EvidenceTree) (e : EvidenceOf ℕ) → IsEvidence t x e → evidence_in p t.names r (length (degrees_of t t.secondaries)) e ≡ x
@@ -174,10 +174,10 @@ module _ (t : TextParts) (are : AreParts t) (listed : is_listed t.characteristic
   EvidenceAt ds es k (Members ys) = IsSome ys × All (IsMemberIn (marked_space (field_at p) n ds) (combination_space (field_at p) ds es) (marked_names t.names k)) ys
 
   evidence_at : (x : EvidenceTree) (e : EvidenceOf ℕ) → IsEvidenceTree x → IsEvidence t x e → EvidenceAt (degrees_of t t.primaries) (degrees_of t t.secondaries) r e
-  evidence_at (Images xs) (Averages ys) is h = (some_read ys xs (read_length _ ys xs h.1) is.0, h.0)
+  evidence_at (Images xs) (Averages ys) is h = (some_read ys xs (read_length _ _ ys xs h.1) is.0, h.0)
   evidence_at (Images xs) (Members ys) is h = absurd h
   evidence_at (Kernel xs) (Averages ys) is h = absurd h
-  evidence_at (Kernel xs) (Members ys) is h = (some_read ys xs (read_length _ ys xs h.1) is.0, h.0)
+  evidence_at (Kernel xs) (Members ys) is h = (some_read ys xs (read_length _ _ ys xs h.1) is.0, h.0)
 
   evidence_is : (e : EvidenceOf ℕ) → EvidenceAt (degrees c) (secondary_degrees c) (length d.primaries) e → AreEvidence c e
   evidence_is (Averages ys) h =
@@ -203,10 +203,10 @@ module _ (t : TextParts) (are : AreParts t) (listed : is_listed t.characteristic
         variables = (are.names.0, few);
         names = are.names.1;
         distinct = distinct;
-        matrices = (some_read d.matrices t.matrices (read_length _ d.matrices t.matrices read.matrices.1) are.matrices.0, read.matrices.0);
+        matrices = (some_read d.matrices t.matrices (read_length _ _ d.matrices t.matrices read.matrices.1) are.matrices.0, read.matrices.0);
         order = are.order;
         primaries = (some_read d.primaries t.primaries in_primaries are.primaries.0, read.primaries.0);
-        lifts = (some_read d.lifts t.lifts (read_length _ d.lifts t.lifts read.lifts.1) are.lifts.0, at_degrees (λ ds k. All (IsPolynomialIn (marked_space (field_at p) n ds) (marked_names t.names k)) d.lifts) read.lifts.0);
+        lifts = (some_read d.lifts t.lifts (read_length _ _ d.lifts t.lifts read.lifts.1) are.lifts.0, at_degrees (λ ds k. All (IsPolynomialIn (marked_space (field_at p) n ds) (marked_names t.names k)) d.lifts) read.lifts.0);
         powers = All-weaker (IsPowerIn (marked c) (marked_names t.names (length d.primaries))) (IsPower c) (λ x i. record { exponent = i.exponent; form = i.form }) d.powers powers;
         power_each = powers_are.0;
         rank = are.rank;

@@ -1,10 +1,9 @@
 -- The first fault of a chain of sections.
-use Rattle.std.proofs.Common.{◌≡◌, ◌≢◌, ◌∙◌, ℕ, ◌+◌, ◌<◌, ◌≤◌, Bool, true, false, List, [], ◌∷◌, Option, Some, None, length, map, refl, sym, ap, subst, arith}
+use Rattle.std.proofs.Common.{◌≡◌, ◌≢◌, ◌∙◌, ℕ, ◌+◌, ◌<◌, ◌≤◌, Bool, true, false, List, [], ◌∷◌, Option, Some, None, length, refl, sym, ap, arith}
 use Rattle.std.specs.Prelude.{AllPairs, All, nat_le, ◌==◌, ◌||◌, not}
 use Rattle.std.specs.Option.{option_or}
 use Rattle.std.specs.Str.{bytes_eq}
 use Rattle.std.proofs.lemmas.Bool.{and_parts, lt-leb, le-leb, ne_eqb, eq-eqb}
-use Rattle.std.proofs.lemmas.List.{length-map}
 use Rattle.std.proofs.lemmas.List.Elements.{All-nil, All-cons}
 use Rattle.std.proofs.lemmas.List.Kept.{AllPairs-cons}
 use Rattle.alg_core.specs.declared.value_kind.ValueKind.{ValueKind}
@@ -17,22 +16,11 @@ use Rattle.certificate_io.specs.Readings.{AnswersFault, on_line, poly_kind, run_
 use Rattle.certificate_io.specs.Spaces.{plain_names, marked_names, word_names}
 use Rattle.certificate_io.specs.Values.{are_distinct, checked, is_among, names_fault, nothing_seen}
 use Rattle.certificate_io.specs.declared.fault.CertFault.{CertFault}
-use Rattle.certificate_io.specs.declared.fault.CertFault.TheVariants as faults
 use Rattle.certificate_io.proofs.ClassCells.{same_bytes}
+use Rattle.certificate_io.proofs.TextAnswers.{fault_of_first, fault_of_second}
 
 abbrev Fault : Type 0
 Fault = Option (ℕ × ValueKind)
-
--- the fault of the first part is that of the chain
-pub fails_first : (e : CertFault) (a b : Fault) → AnswersFault e a → AnswersFault e (option_or a b)
-fails_first e (Some x) b h = h
-fails_first (faults.Syntax line) None b h = absurd h
-fails_first (faults.Value line kind) None b h = absurd cc
-fails_first faults.Memory None b h = tt
-
--- where it has none, that of the rest is
-pub fails_next : (e : CertFault) (a b : Fault) → a ≡ None → AnswersFault e b → AnswersFault e (option_or a b)
-fails_next e a b none h = subst (λ x. AnswersFault e (option_or x b)) (sym none) h
 
 pub chain_next : (a b : Fault) → a ≡ None → option_or a b ≡ b
 chain_next a b none = ap (λ x. option_or x b) none
@@ -54,15 +42,15 @@ module _ (t : TextParts) where
   enough = on_line (module_end t) (checked kinds.Count (nat_le (length t.names) (length t.powers)))
 
   pub primaries_fail : (e : CertFault) → AnswersFault e primaries → AnswersFault e (module_faults t)
-  primaries_fail e h = fails_first e primaries (option_or lifts (option_or powers enough)) h
+  primaries_fail e h = fault_of_first e primaries (option_or lifts (option_or powers enough)) h
 
   module _ (p : primaries ≡ None) where
     pub lifts_fail : (e : CertFault) → AnswersFault e lifts → AnswersFault e (module_faults t)
-    lifts_fail e h = fails_next e primaries (option_or lifts (option_or powers enough)) p (fails_first e lifts (option_or powers enough) h)
+    lifts_fail e h = fault_of_second e primaries (option_or lifts (option_or powers enough)) p (fault_of_first e lifts (option_or powers enough) h)
 
     module _ (l : lifts ≡ None) where
       pub powers_fail : (e : CertFault) → AnswersFault e powers → AnswersFault e (module_faults t)
-      powers_fail e h = fails_next e primaries (option_or lifts (option_or powers enough)) p (fails_next e lifts (option_or powers enough) l (fails_first e powers enough h))
+      powers_fail e h = fault_of_second e primaries (option_or lifts (option_or powers enough)) p (fault_of_second e lifts (option_or powers enough) l (fault_of_first e powers enough h))
 
       module _ (w : powers ≡ None) where
         counted : module_faults t ≡ enough
@@ -93,22 +81,22 @@ module _ (t : TextParts) where
   after_evidence = option_or irreducibles (option_or words ended)
 
   pub secondaries_fail : (e : CertFault) → AnswersFault e secondaries → AnswersFault e (generator_faults t)
-  secondaries_fail e h = fails_first e secondaries (option_or evident after_evidence) h
+  secondaries_fail e h = fault_of_first e secondaries (option_or evident after_evidence) h
 
   module _ (s : secondaries ≡ None) where
     pub evidence_fails : (e : CertFault) → AnswersFault e evident → AnswersFault e (generator_faults t)
-    evidence_fails e h = fails_next e secondaries (option_or evident after_evidence) s (fails_first e evident after_evidence h)
+    evidence_fails e h = fault_of_second e secondaries (option_or evident after_evidence) s (fault_of_first e evident after_evidence h)
 
     module _ (v : evident ≡ None) where
       later : (e : CertFault) → AnswersFault e after_evidence → AnswersFault e (generator_faults t)
-      later e h = fails_next e secondaries (option_or evident after_evidence) s (fails_next e evident after_evidence v h)
+      later e h = fault_of_second e secondaries (option_or evident after_evidence) s (fault_of_second e evident after_evidence v h)
 
       pub irreducibles_fail : (e : CertFault) → AnswersFault e irreducibles → AnswersFault e (generator_faults t)
-      irreducibles_fail e h = later e (fails_first e irreducibles (option_or words ended) h)
+      irreducibles_fail e h = later e (fault_of_first e irreducibles (option_or words ended) h)
 
       module _ (i : irreducibles ≡ None) where
         pub words_fail : (e : CertFault) → AnswersFault e words → AnswersFault e (generator_faults t)
-        words_fail e h = later e (fails_next e irreducibles (option_or words ended) i (fails_first e words ended h))
+        words_fail e h = later e (fault_of_second e irreducibles (option_or words ended) i (fault_of_first e words ended h))
 
         module _ (w : words ≡ None) where
           closed : generator_faults t ≡ ended
@@ -147,7 +135,3 @@ names_pass ws h = go (nat_le (length ws) 8) (are_distinct ws) h
     go true true h = refl
     go true false h = absurd cc
     go false b h = absurd cc
-
--- as many are read as there are lines
-pub read_length : {A B T : Type 0} (view : A → B) (said : T → B) (v : List A) (xs : List T) → map view v ≡ map said xs → length v ≡ length xs
-read_length view said v xs same = sym (length-map v view) ∙ ap length same ∙ length-map xs said

@@ -43,8 +43,8 @@ same_maps : {A B : Type 0} (f g : A → B) → ((x : A) → f x ≡ g x) → (xs
 same_maps f g same [] = refl
 same_maps f g same (x ∷ xs) = ap₂ (λ y ys. y ∷ ys) (same x) (same_maps f g same xs)
 
-pub read_length : {A B : Type 0} (f : A → B) (xs : List A) (ys : List B) → map f xs ≡ map (λ y. y) ys → length xs ≡ length ys
-read_length f xs ys e = sym (length-map xs f) ∙ ap length e ∙ length-map ys (λ y. y)
+pub read_length : {A B T : Type 0} (f : A → B) (g : T → B) (xs : List A) (ys : List T) → map f xs ≡ map g ys → length xs ≡ length ys
+read_length f g xs ys e = sym (length-map xs f) ∙ ap length e ∙ length-map ys g
 
 pub some_read : {A B : Type 0} (xs : List A) (ys : List B) → length xs ≡ length ys → IsSome ys → IsSome xs
 some_read xs ys same some = subst (λ (k : ℕ). 1 ≤ k) (sym same) some

@@ -1,4 +1,4 @@
--- The first fault of a text, section by section; the lines are counted as the calls that read them do.
+-- The faults of a text, section by section, in words of its parts; the lines are counted as the calls that read them do.
 --
 --   heading_seen t          what the lines of the characteristic and the names tell
 --   degrees_of t tss        the greatest degrees of these polynomials in the variables
@@ -6,6 +6,7 @@
 --   heading_end, module_end, evidence_begin, evidence_end, words_begin, text_end t
 --                           the number of the last line: of the matrices and the order; of the rank; of the kind of the evidence; of the
 --                           evidence; of the irreducible generators; of all lines
+--   evidence_length e       how many lines the evidence e has, after that of its kind
 --   heading_faults, module_faults, evidence_faults, generator_faults t   the first fault of the lines up to that of the order, of those
 --                           up to that of the rank, of the evidence, of those after the rank
 use Rattle.std.specs.Prelude.{ℕ, ◌+◌, ◌==◌, nat_le, List, [], ◌++◌, length, map, Option}

@@ -3,6 +3,7 @@
 --   PowerTree, ImageTree, MemberTree   the parts of the line of a power, of an average, of a member of the kernel
 --   EvidenceTree           the lines of the averages, or of the members
 --   TextParts              the parts of all lines
+--   moved_or_fixed u o     the line of a member, moved where it has no combination o
 --   image_line x, power_line x, member_line x   the lines of these parts
 --   evidence_lines e       the line of the kind of the evidence, and those of the evidence
 --   lines_in t             all lines, in their order

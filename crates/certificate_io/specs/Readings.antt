@@ -14,11 +14,12 @@
 --   matrix_text cs         what follows the first word of the line of a matrix
 --   matrix_cells p m       the entries that a matrix prints
 --   power_text, image_text, member_text x   what follows the first word of the lines of these parts
---   text_after o           what follows the polynomial of a member
+--   words_after o, text_after o   the words after the polynomial of a member, what follows it
 --   poly_tree S names f    the tree that the polynomial f prints
 --   comb_tree S c          that of the combination c
 --   poly_kind S names ts, comb_kind S ts   the kind of the first fault of a tree as a polynomial, as a combination
 --   CanRead S names        polynomials over S can be read in variables with these names
+--   CanCombine S           combinations over S can be read: each of its positions has a constant
 use Rattle.std.specs.Prelude.{◌≡◌, ℕ, suc, ◌-◌, ◌*◌, ◌==◌, if◌then◌else◌, List, [], ◌∷◌, length, map, All, Option, Some, None, Result, Ok, Err, IsTrue, decimal}
 use Rattle.std.specs.List.{list_all}
 use Rattle.std.specs.Option.{option_or}
@@ -31,7 +32,7 @@ use Rattle.poly_module.specs.SpaceVectors.{HasPolynomials}
 use Rattle.poly_module.specs.declared.vector.Comb.{Comb}
 use Rattle.poly_text.specs.Syntax.{Term, product_text, spelling}
 use Rattle.poly_text.specs.Texts.{by_position, combination_term, place_count, term_of}
-use Rattle.poly_text.specs.Values.{AreDistinct, fault_or, mark_names}
+use Rattle.poly_text.specs.Values.{AreDistinct, HasPositions, fault_or, mark_names}
 use Rattle.poly_text.specs.declared.fault.TextFault.{TextFault}
 use Rattle.poly_text.specs.declared.fault.TextFault.TheVariants as texts
 use Rattle.poly_text.specs.declared.names.Names.{Names}
@@ -122,3 +123,6 @@ pub record CanRead (S : SpaceOver ℕ) (names : Names) : Type 0 where
   pub distinct : AreDistinct names
   pub polynomials : HasPolynomials S
   pub variables : All (λ w. IsTrue (is_name w)) names.vars
+
+abbrev pub CanCombine : SpaceOver ℕ → Type 0
+CanCombine S = HasPositions (Some (length S.shifts)) S

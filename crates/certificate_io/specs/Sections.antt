@@ -8,7 +8,8 @@
 --   HasRoom s              the numbers of its lines can be counted
 --   HasModuleRoom, HasGeneratorRoom s   so can those of these sections
 --   module_trees, generator_trees t    the lines after that of the order, after that of the rank
---   IsRun C text i xs s    the section has the lines C x, from the line i on, and text says what follows their first words
+--   IsRun text i xs s      the section begins with the line i, and text says of the parts xs what follows the first words of its lines
+--   IsEvidenceRun i e by_kernel s   the section has the lines of the evidence e, which is by the kernel or not, from the line i on
 --   AreHeadingLines, AreModuleLines, AreGeneratorLines t s    the sections are those of the parts of the text
 use Rattle.std.specs.Prelude.{◌≡◌, ◌≢◌, ◌<◌, ℕ, ◌+◌, ◌^◌, Bool, true, false, List, [], ◌∷◌, ◌++◌, length, map, decimal}
 use Rattle.poly_text.specs.Syntax.{spelling}

@@ -12,7 +12,7 @@
 --   IsPolynomial ts        each term is one of the grammar of polynomial texts
 --   IsLine l               so is each part of the line; numbers have at most their digits, names are names
 --   kind_of l              what kind of line it is
---   successors before      the kinds of lines that may stand after this one; None is the beginning of a text
+--   successors_of k, successors before   the kinds of lines that may stand after this one; None is the beginning of a text
 --   AreInOrder before ks   lines of the kinds ks may stand in this order after this one
 --   last_kind before ks    the kind of the last
 --   IsShaped ls            the lines stand in an order of the grammar, and the last is the end

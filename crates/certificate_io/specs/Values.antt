@@ -12,6 +12,7 @@
 --   is_name_at ns i w       w is the name at the place i, from 0
 --   kind_of_fault m S names ts   the kind of the first fault of a polynomial, or where m is no None of a combination
 --   plain_fault, marked_fault, combination_fault, word_fault s ts   the same in the spaces of a certificate
+--   names_fault, matrix_fault, power_fault s   the first condition that fails on the line of the names, of a matrix, of a power
 --   line_fault s l          the first condition on a line that fails
 --   first_fault i s ls      the first line, counted from i, at which one fails, and the first that does
 use Rattle.std.specs.Prelude.{ℕ, suc, ◌+◌, ◌*◌, Bool, true, not, ◌&&◌, ◌==◌, nat_le, nat_lt, List, [], ◌∷◌, ◌++◌, length, map, get_or, Option, Some, None, if◌then◌else◌}

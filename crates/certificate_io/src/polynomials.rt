@@ -5,13 +5,13 @@ ghost use Rattle.std.specs.Option.{option_map};
 ghost use Rattle.alg_core.specs.Spaces.{over, IsPlace};
 ghost use Rattle.poly_text.specs.Syntax.{Factor, Term as TermTree, IsText, IsMonomialText, HasMonomialText, monomial_term, spelling};
 ghost use Rattle.poly_text.specs.Texts.{factors_from, variable_at};
-ghost use Rattle.poly_text.specs.Values.{HasPositions, IsReadable};
+ghost use Rattle.poly_text.specs.Values.{IsReadable};
 ghost use Rattle.certificate_io.specs.Lines.{bytes_at, IsNumber};
 ghost use Rattle.certificate_io.specs.Values.{is_name_at};
 ghost use Rattle.certificate_io.specs.Syntax.{IsPolynomial};
 ghost use Rattle.certificate_io.specs.Conditions.{IsPolynomialIn, IsCombinationIn};
 ghost use Rattle.certificate_io.specs.Parts.{PowerTree, ImageTree, MemberTree, IsPowerTree, IsImageTree, IsMemberTree};
-ghost use Rattle.certificate_io.specs.Readings.{fault_on, Answers, on_line, run_fault, AreReadBy, tails, power_text, image_text, member_text, text_after, poly_tree, comb_tree, poly_kind, comb_kind, CanRead};
+ghost use Rattle.certificate_io.specs.Readings.{CanCombine, fault_on, Answers, on_line, run_fault, AreReadBy, tails, power_text, image_text, member_text, text_after, poly_tree, comb_tree, poly_kind, comb_kind, CanRead};
 ghost use Rattle.certificate_io.specs.LineReadings.{power_kind, image_kind, member_kind, comb_kind_of, IsPowerIn, IsImageIn, IsMemberIn, power_parts, power_said, image_tree, member_tree};
 
 use crate::evidence::{Image, Line};
@@ -70,7 +70,7 @@ fn combination<O: TermOrder>(
     line: u64,
     text: &[u8],
 ) -> Result<Comb<u16>, CertFault>
-    requires positions { let S = over (⟦<PrimeField as Field>⟧.field) O.order space.now in HasPositions (Some (length S.shifts)) S }
+    requires positions { CanCombine (over (⟦<PrimeField as Field>⟧.field) O.order space.now) }
     ensures is { let S = over (⟦<PrimeField as Field>⟧.field) O.order space.now in (ts : List TermTree) → IsText ts text.now
         → Answers result (on_line line (comb_kind S ts)) (λ c. IsCombinationIn S c.vector × (comb_tree S c ≡ ts)) }
 {
@@ -220,7 +220,7 @@ fn image<O: TermOrder, P: TermOrder>(
     text: &[u8],
 ) -> Result<Image<u16>, CertFault>
     requires ready { CanRead (over (⟦<PrimeField as Field>⟧.field) O.order plain.now) names.now }
-    requires positions { let S = over (⟦<PrimeField as Field>⟧.field) P.order combined.now in HasPositions (Some (length S.shifts)) S }
+    requires positions { CanCombine (over (⟦<PrimeField as Field>⟧.field) P.order combined.now) }
     requires text { (x : ImageTree) × IsImageTree x × (image_text x ≡ text.now) }
     ensures is { let S = over (⟦<PrimeField as Field>⟧.field) O.order plain.now in
         let T = over (⟦<PrimeField as Field>⟧.field) P.order combined.now in (x : ImageTree) → IsImageTree x → image_text x ≡ text.now
@@ -243,7 +243,7 @@ pub(crate) fn images_of<O: TermOrder, P: TermOrder>(
     lines: &[LineText],
 ) -> Result<Vec<Image<u16>>, CertFault>
     requires ready { CanRead (over (⟦<PrimeField as Field>⟧.field) O.order plain.now) names.now }
-    requires positions { let S = over (⟦<PrimeField as Field>⟧.field) P.order combined.now in HasPositions (Some (length S.shifts)) S }
+    requires positions { CanCombine (over (⟦<PrimeField as Field>⟧.field) P.order combined.now) }
     requires room { first + length lines.now < 2 ^ 64 }
     requires texts { (xs : List ImageTree) × All IsImageTree xs × (tails lines.now ≡ map image_text xs) }
     ensures is { let S = over (⟦<PrimeField as Field>⟧.field) O.order plain.now in
@@ -268,7 +268,7 @@ fn combination_after<O: TermOrder>(
     line: u64,
     text: Option<&[u8]>,
 ) -> Result<Option<Comb<u16>>, CertFault>
-    requires positions { let S = over (⟦<PrimeField as Field>⟧.field) O.order space.now in HasPositions (Some (length S.shifts)) S }
+    requires positions { CanCombine (over (⟦<PrimeField as Field>⟧.field) O.order space.now) }
     ensures is { let S = over (⟦<PrimeField as Field>⟧.field) O.order space.now in (o : Option (List TermTree)) → IfSome o IsPolynomial
         → bytes_at text.entry ≡ text_after o → Answers result (on_line line (comb_kind_of S o))
         (λ c. IfSome c (λ x. IsCombinationIn S x.vector) × (option_map (comb_tree S) c ≡ o)) }
@@ -292,7 +292,7 @@ fn member<O: TermOrder, P: TermOrder>(
     text: &[u8],
 ) -> Result<Line<u16>, CertFault>
     requires ready { CanRead (over (⟦<PrimeField as Field>⟧.field) O.order marked.now) names.now }
-    requires positions { let S = over (⟦<PrimeField as Field>⟧.field) P.order combined.now in HasPositions (Some (length S.shifts)) S }
+    requires positions { CanCombine (over (⟦<PrimeField as Field>⟧.field) P.order combined.now) }
     ensures is { let S = over (⟦<PrimeField as Field>⟧.field) O.order marked.now in
         let T = over (⟦<PrimeField as Field>⟧.field) P.order combined.now in (x : MemberTree) → IsMemberTree x → member_text x ≡ text.now
         → Answers result (on_line line (member_kind S T names.now x)) (λ y. IsMemberIn S T names.now y × (member_tree S T names.now y ≡ x)) }
@@ -313,7 +313,7 @@ pub(crate) fn members_of<O: TermOrder, P: TermOrder>(
     lines: &[LineText],
 ) -> Result<Vec<Line<u16>>, CertFault>
     requires ready { CanRead (over (⟦<PrimeField as Field>⟧.field) O.order marked.now) names.now }
-    requires positions { let S = over (⟦<PrimeField as Field>⟧.field) P.order combined.now in HasPositions (Some (length S.shifts)) S }
+    requires positions { CanCombine (over (⟦<PrimeField as Field>⟧.field) P.order combined.now) }
     requires room { first + length lines.now < 2 ^ 64 }
     ensures is { let S = over (⟦<PrimeField as Field>⟧.field) O.order marked.now in
         let T = over (⟦<PrimeField as Field>⟧.field) P.order combined.now in (xs : List MemberTree) → All IsMemberTree xs → tails lines.now ≡ map member_text xs

@@ -14,8 +14,10 @@ use std::alloc::Global;
 ///
 /// The texts that are read are those that `print_certificate` prints of certificates that meet the conditions on values:
 /// polynomials and combinations of degrees and exponents up to 4096, in variables and marks whose indices have at most
-/// 5 digits. Of any other text the fault is `Syntax` where it is none of the grammar, else `Value`: the shape of all
-/// lines is judged before any value. The time is linear in the text.
+/// 5 digits. Of any other text the fault is `Syntax` where it is none of the grammar, with the number of lines more than
+/// the most with which some text begins; else `Value`, with the first line, from 1, at which a condition fails, and the
+/// first condition that fails there. So the shape of all lines is judged before any value. It is `Memory` only where
+/// memory is refused.
 pub fn read_certificate(alloc: Global, bytes: &[u8]) -> Result<Certificate<u16>, CertFault>
     requires short { length bytes.now ≤ 268435456 }
     ensures certificate { IfOk result IsCertificate }

@@ -1,24 +1,22 @@
 //! The values of a text of the grammar: the certificate that it prints, or the first condition that fails.
 
-ghost use Rattle.std.specs.Prelude.{◌≡◌, ◌≢◌, ◌≤◌, ℕ, List, ◌++◌, All, AllPairs, Some, IfOk, IsTrue, length, map};
+ghost use Rattle.std.specs.Prelude.{◌≡◌, ◌≤◌, ℕ, List, ◌++◌, All, IfOk, IsTrue, length, map};
 ghost use Rattle.alg_core.specs.Names.{is_name};
-ghost use Rattle.alg_core.specs.Spaces.{over};
-ghost use Rattle.poly_module.specs.GreatestExponents.{total};
-ghost use Rattle.poly_text.specs.Syntax.{Term as TermTree, spelling};
-ghost use Rattle.poly_text.specs.Values.{HasPositions};
 ghost use Rattle.certificate_io.specs.Certificates.{evidence_of};
 ghost use Rattle.certificate_io.specs.Conditions.{IsCertificate, degree_of};
 ghost use Rattle.certificate_io.specs.Lines.{line_of, shown};
-ghost use Rattle.certificate_io.specs.LineReadings.{power_kind};
 ghost use Rattle.certificate_io.specs.PartFaults.{degrees_of, plain_of, marked_of, combined_of, worded_of, heading_faults, module_faults, evidence_faults, generator_faults};
-ghost use Rattle.certificate_io.specs.Parts.{TextParts, EvidenceTree, ImageTree, MemberTree, PowerTree, AreParts, IsEvidenceTree, IsImageTree, IsMemberTree, IsPowerTree, lines_in, parts_of};
 ghost use Rattle.certificate_io.specs.Parts as trees;
-ghost use Rattle.certificate_io.specs.ReadParts.{HasSmallTerms, ArePolynomials, ArePowers, IsReady, IsHeading, IsModule, IsEvidence, AreGenerators};
-ghost use Rattle.certificate_io.specs.Readings.{Answers, CanRead, image_text, member_text, poly_kind, power_text, run_fault, tails};
+ghost use Rattle.certificate_io.specs.Parts.{TextParts, EvidenceTree, ImageTree, MemberTree, PowerTree, AreParts, IsEvidenceTree, IsImageTree, IsMemberTree, IsPowerTree, lines_in, parts_of};
+ghost use Rattle.certificate_io.specs.ReadParts.{HasSmallTerms, IsReady, IsHeading, IsModule, IsEvidence, AreGenerators, dp_over, block_over, marked_names_of, word_names_of, ArePlain, AreMarked, AnswersPolynomials, AnswersPowers};
+ghost use Rattle.certificate_io.specs.Readings.{Answers, CanRead, image_text, member_text, power_text, tails, CanCombine};
 ghost use Rattle.certificate_io.specs.Sections.{HasRoom, IsRun, IsEvidenceRun, HasModuleRoom, HasGeneratorRoom, AreHeadingLines, AreModuleLines, AreGeneratorLines};
-ghost use Rattle.certificate_io.specs.Spaces.{combination_space, word_space, plain_names, marked_names, word_names};
+ghost use Rattle.certificate_io.specs.Spaces.{combination_space, word_space, plain_names, word_names};
 ghost use Rattle.certificate_io.specs.Syntax.{IsPolynomial};
 ghost use Rattle.certificate_io.specs.Values.{first_fault, nothing_seen};
+ghost use Rattle.poly_module.specs.GreatestExponents.{total};
+ghost use Rattle.poly_text.proofs.EntrySteps.{field_of};
+ghost use Rattle.poly_text.specs.Syntax.{Term as TermTree, spelling};
 
 use crate::certificate::Certificate;
 use crate::evidence::Evidence;
@@ -129,9 +127,8 @@ fn copied(alloc: Global, names: &[Name]) -> Result<Vec<Name>, Memory>
 /// The variables of the invariants.
 fn plain(alloc: Global, heading: &Heading) -> Result<Variables<Dp>, Memory>
     requires ready { IsReady heading.now }
-    ensures ready { IfOk result (λ v. CanRead (over (⟦<PrimeField as Field>⟧.field) (⟦<Dp as TermOrder>⟧.order) v.space) v.names) }
-    ensures is { (t : TextParts) → IsHeading t heading.now → IfOk result (λ v.
-        (over (⟦<PrimeField as Field>⟧.field) (⟦<Dp as TermOrder>⟧.order) v.space ≡ plain_of t) × (v.names ≡ plain_names t.names)) }
+    ensures ready { IfOk result (λ v. CanRead (dp_over v.space) v.names) }
+    ensures is { (t : TextParts) → IsHeading t heading.now → IfOk result (ArePlain t) }
 {
     let space = Space::of_variables(alloc, heading.field, heading.names.len() as u32)?;
     let vars = copied(alloc, heading.names.as_slice())?;
@@ -150,9 +147,8 @@ fn marked(
     degrees: &[u32],
 ) -> Result<Variables<BlockOrder>, Memory>
     requires ready { IsReady heading.now }
-    ensures ready { IfOk result (λ v. CanRead (over (⟦<PrimeField as Field>⟧.field) (⟦<BlockOrder as TermOrder>⟧.order) v.space) v.names) }
-    ensures is { (t : TextParts) → IsHeading t heading.now → degrees.now ≡ degrees_of t t.primaries → IfOk result (λ v.
-        (over (⟦<PrimeField as Field>⟧.field) (⟦<BlockOrder as TermOrder>⟧.order) v.space ≡ marked_of t) × (v.names ≡ marked_names t.names (length t.primaries))) }
+    ensures ready { IfOk result (λ v. CanRead (block_over v.space) v.names) }
+    ensures is { (t : TextParts) → IsHeading t heading.now → degrees.now ≡ degrees_of t t.primaries → IfOk result (AreMarked t) }
 {
     let space = Space::with_marks(alloc, heading.field, heading.names.len() as u32, degrees)?;
     let vars = copied(alloc, heading.names.as_slice())?;
@@ -171,9 +167,8 @@ fn combined(
     degrees: &[u32],
     shifts: &[u32],
 ) -> Result<Space<PrimeField, Dp>, Memory>
-    ensures is { IfOk result (λ s. over (⟦<PrimeField as Field>⟧.field) (⟦<Dp as TermOrder>⟧.order) s
-        ≡ combination_space (⟦<PrimeField as Field>⟧.field field) degrees.now shifts.now) }
-    ensures positions { IfOk result (λ s. let S = over (⟦<PrimeField as Field>⟧.field) (⟦<Dp as TermOrder>⟧.order) s in HasPositions (Some (length S.shifts)) S) }
+    ensures is { IfOk result (λ s. dp_over s ≡ combination_space (field_of field) degrees.now shifts.now) }
+    ensures positions { IfOk result (λ s. CanCombine (dp_over s)) }
 {
     let mut weights = Vec::new(alloc);
     weights.extend_from_slice(degrees)?;
@@ -200,9 +195,9 @@ fn worded(
     primaries: &[u32],
     irreducibles: &[u32],
 ) -> Result<Variables<Dp>, Memory>
-    ensures is { IfOk result (λ v. (over (⟦<PrimeField as Field>⟧.field) (⟦<Dp as TermOrder>⟧.order) v.space
-        ≡ word_space (⟦<PrimeField as Field>⟧.field field) (primaries.now ++ irreducibles.now)) × (v.names ≡ word_names (length primaries.now) (length irreducibles.now))) }
-    ensures ready { IfOk result (λ v. CanRead (over (⟦<PrimeField as Field>⟧.field) (⟦<Dp as TermOrder>⟧.order) v.space) v.names) }
+    ensures space { IfOk result (λ v. dp_over v.space ≡ word_space (field_of field) (primaries.now ++ irreducibles.now)) }
+    ensures names { IfOk result (λ v. v.names ≡ word_names (length primaries.now) (length irreducibles.now)) }
+    ensures ready { IfOk result (λ v. CanRead (dp_over v.space) v.names) }
 {
     let mut weights = Vec::new(alloc);
     weights.extend_from_slice(primaries)?;
@@ -225,7 +220,7 @@ fn plain_polynomials(
     requires ready { IsReady heading.now }
     requires room { HasRoom section.now }
     ensures is { (t : TextParts) → IsHeading t heading.now → (i : ℕ) (xs : List (List TermTree)) → All IsPolynomial xs → IsRun spelling i xs section.now
-        → Answers result (run_fault (λ _ ts. poly_kind (plain_of t) (plain_names t.names) ts) i 0 xs) (λ v. ArePolynomials (plain_of t) (plain_names t.names) xs v.items) }
+        → AnswersPolynomials (plain_of t) (plain_names t.names) i xs result }
 {
     let variables = plain(alloc, heading)?;
     polynomials_of(
@@ -248,8 +243,7 @@ fn marked_polynomials(
     requires room { HasRoom section.now }
     ensures is { (t : TextParts) → IsHeading t heading.now → degrees.now ≡ degrees_of t t.primaries
         → (i : ℕ) (xs : List (List TermTree)) → All IsPolynomial xs → IsRun spelling i xs section.now
-        → Answers result (run_fault (λ _ ts. poly_kind (marked_of t) (marked_names t.names (length t.primaries)) ts) i 0 xs)
-        (λ v. ArePolynomials (marked_of t) (marked_names t.names (length t.primaries)) xs v.items) }
+        → AnswersPolynomials (marked_of t) (marked_names_of t) i xs result }
 {
     let variables = marked(alloc, heading, degrees)?;
     polynomials_of(
@@ -272,8 +266,7 @@ fn marked_powers(
     requires room { HasRoom section.now }
     ensures is { (t : TextParts) → IsHeading t heading.now → degrees.now ≡ degrees_of t t.primaries
         → (i : ℕ) (xs : List PowerTree) → All IsPowerTree xs → IsRun power_text i xs section.now
-        → Answers result (run_fault (power_kind (marked_of t) (marked_names t.names (length t.primaries))) i 0 xs)
-        (λ v. ArePowers (marked_of t) (marked_names t.names (length t.primaries)) xs v.items) }
+        → AnswersPowers (marked_of t) (marked_names_of t) i xs result }
 {
     let variables = marked(alloc, heading, degrees)?;
     powers_of(
@@ -293,10 +286,10 @@ fn averages(
     section: &Section,
 ) -> Result<Evidence<u16>, CertFault>
     requires ready { IsReady heading.now }
-    requires positions { let S = over (⟦<PrimeField as Field>⟧.field) (⟦<Dp as TermOrder>⟧.order) combined.now in HasPositions (Some (length S.shifts)) S }
+    requires positions { CanCombine (dp_over combined.now) }
     requires room { HasRoom section.now }
     requires texts { (xs : List ImageTree) × All IsImageTree xs × (tails section.now.lines.now ≡ map image_text xs) }
-    ensures is { (t : TextParts) → IsHeading t heading.now → over (⟦<PrimeField as Field>⟧.field) (⟦<Dp as TermOrder>⟧.order) combined.now ≡ combined_of t
+    ensures is { (t : TextParts) → IsHeading t heading.now → dp_over combined.now ≡ combined_of t
         → (i : ℕ) (xs : List ImageTree) → All IsImageTree xs → IsRun image_text i xs section.now
         → Answers result (evidence_faults t i (trees.Images xs)) (λ e. IsEvidence t (trees.Images xs) (evidence_of e)) }
 {
@@ -321,10 +314,10 @@ fn members(
     section: &Section,
 ) -> Result<Evidence<u16>, CertFault>
     requires ready { IsReady heading.now }
-    requires positions { let S = over (⟦<PrimeField as Field>⟧.field) (⟦<Dp as TermOrder>⟧.order) combined.now in HasPositions (Some (length S.shifts)) S }
+    requires positions { CanCombine (dp_over combined.now) }
     requires room { HasRoom section.now }
     ensures is { (t : TextParts) → IsHeading t heading.now → degrees.now ≡ degrees_of t t.primaries
-        → over (⟦<PrimeField as Field>⟧.field) (⟦<Dp as TermOrder>⟧.order) combined.now ≡ combined_of t
+        → dp_over combined.now ≡ combined_of t
         → (i : ℕ) (xs : List MemberTree) → All IsMemberTree xs → IsRun member_text i xs section.now
         → Answers result (evidence_faults t i (trees.Kernel xs)) (λ e. IsEvidence t (trees.Kernel xs) (evidence_of e)) }
 {
@@ -373,8 +366,7 @@ fn words(
     requires room { HasRoom section.now }
     ensures is { (t : TextParts) → IsHeading t heading.now → primaries.now ≡ degrees_of t t.primaries → irreducibles.now ≡ degrees_of t t.irreducibles
         → (i : ℕ) (xs : List (List TermTree)) → All IsPolynomial xs → IsRun spelling i xs section.now
-        → Answers result (run_fault (λ _ ts. poly_kind (worded_of t) (word_names (length t.primaries) (length t.irreducibles)) ts) i 0 xs)
-        (λ v. ArePolynomials (worded_of t) (word_names (length t.primaries) (length t.irreducibles)) xs v.items) }
+        → AnswersPolynomials (worded_of t) (word_names_of t) i xs result }
 {
     let variables = worded(alloc, heading.field, primaries, irreducibles)?;
     polynomials_of(

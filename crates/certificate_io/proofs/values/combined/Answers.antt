@@ -1,7 +1,7 @@
 use Rattle.std.proofs.Common.{◌∙◌, ◌++◌, Some, length, sym, ap, subst}
 use Rattle.alg_core.specs.Spaces.{SpaceOver}
 use Rattle.poly_text.specs.Values.{HasPositions}
-use Rattle.certificate_io.specs.ReadParts.{field_of}
+use Rattle.poly_text.proofs.EntrySteps.{field_of}
 use Rattle.certificate_io.proofs.SpaceReadings.{weighted, has_positions}
 use Rattle.certificate_io.proofs.values.combined.Goals as goal
 

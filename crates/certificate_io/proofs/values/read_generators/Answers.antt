@@ -7,8 +7,9 @@ use Rattle.certificate_io.specs.ReadParts.{HasSmallTerms, AreGenerators}
 use Rattle.certificate_io.specs.Readings.{poly_tree}
 use Rattle.certificate_io.specs.Spaces.{plain_names, word_names}
 use Rattle.certificate_io.proofs.DegreeSteps.{small_read, told_degrees}
-use Rattle.certificate_io.proofs.FaultChains.{read_length, evidence_fails, irreducibles_fail, words_fail, end_fails, generators_pass}
+use Rattle.certificate_io.proofs.FaultChains.{secondaries_fail, evidence_fails, irreducibles_fail, words_fail, end_fails, generators_pass}
 use Rattle.certificate_io.proofs.ReadingRuns.{error_answers}
+use Rattle.certificate_io.proofs.SectionsRead.{read_length}
 use Rattle.certificate_io.proofs.values.read_generators.Goals as goal
 
 pub degrees-requires : goal.degrees-requires
@@ -24,6 +25,13 @@ degrees-requires-2 c =
     let t = x.0 in
     let read = c.in_ok-irreducibles.ensures.is t x.2 (evidence_end t + 1) t.irreducibles x.1.irreducibles x.3.irreducibles in
     record { small = subst (All HasSmallTerms) (sym c.as_slice-3.ensures.value) (small_read t t.irreducibles c.in_ok-irreducibles.irreducibles.items read.1) }
+
+pub returns-in_err-secondaries : goal.returns-in_err-secondaries
+returns-in_err-secondaries c = record {
+  is = λ t are is marks lines.
+      let e = c.in_err-secondaries.field-0.0 in
+      error_answers c.from_residual.result e (generator_faults t) (AreGenerators t) c.from_residual.ensures.1 (secondaries_fail t e (c.in_err-secondaries.ensures.is t is (module_end t + 1) t.secondaries are.secondaries.1 lines.secondaries));
+}
 
 pub returns-in_err-evidence : goal.returns-in_err-evidence
 returns-in_err-evidence c = record {

@@ -7,7 +7,7 @@ use Rattle.lin_algebra.specs.declared.matrix.Matrix.{Matrix}
 use Rattle.alg_core.specs.declared.value_kind.ValueKind.TheVariants as kinds
 use Rattle.certificate_io.specs.Certificates.{matrix_of}
 use Rattle.certificate_io.specs.Conditions.{IsSquare}
-use Rattle.certificate_io.specs.ReadParts.{field_of}
+use Rattle.poly_text.proofs.EntrySteps.{field_of}
 use Rattle.certificate_io.specs.Readings.{AreReadBy, matrix_cells, matrix_kind, on_line, run_fault}
 use Rattle.certificate_io.specs.Values.{checked, names_fault, nothing_seen}
 use Rattle.certificate_io.proofs.FaultChains.{chain_next, names_pass, pairs_distinct}

@@ -7,8 +7,9 @@ use Rattle.certificate_io.specs.PartFaults.{heading_end, marked_of, module_fault
 use Rattle.certificate_io.specs.ReadParts.{HasSmallTerms, IsModule}
 use Rattle.certificate_io.specs.Spaces.{marked_names}
 use Rattle.certificate_io.proofs.DegreeSteps.{small_read, told_degrees}
-use Rattle.certificate_io.proofs.FaultChains.{read_length, lifts_fail, powers_fail, rank_fails, module_passes}
+use Rattle.certificate_io.proofs.FaultChains.{primaries_fail, lifts_fail, powers_fail, rank_fails, module_passes}
 use Rattle.certificate_io.proofs.ReadingRuns.{error_answers}
+use Rattle.certificate_io.proofs.SectionsRead.{read_length}
 use Rattle.certificate_io.proofs.values.read_module.Goals as goal
 
 pub degrees-requires : goal.degrees-requires
@@ -17,6 +18,13 @@ degrees-requires c =
     let t = x.0 in
     let read = c.in_ok-primaries.ensures.is t x.2 (heading_end t + 1) t.primaries x.1.primaries.1 x.3.primaries in
     record { small = subst (All HasSmallTerms) (sym c.as_slice.ensures.value) (small_read t t.primaries c.in_ok-primaries.primaries.items read.1) }
+
+pub returns-in_err-primaries : goal.returns-in_err-primaries
+returns-in_err-primaries c = record {
+  is = λ t are is lines.
+      let e = c.in_err-primaries.field-0.0 in
+      error_answers c.from_residual.result e (module_faults t) (IsModule t) c.from_residual.ensures.1 (primaries_fail t e (c.in_err-primaries.ensures.is t is (heading_end t + 1) t.primaries are.primaries.1 lines.primaries));
+}
 
 pub returns-in_err-lifts : goal.returns-in_err-lifts
 returns-in_err-lifts c = record {
