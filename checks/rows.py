@@ -7,6 +7,7 @@ tell, as that every invariant is a combination of given ones, so a proved test c
 `rt`, nothing is run.
 """
 
+import json
 import os
 import shutil
 import subprocess
@@ -15,6 +16,14 @@ import tempfile
 
 TOP = os.path.dirname(os.path.dirname(os.path.abspath(__file__)))
 ROWS = os.path.join(TOP, "checks", "rows")
+
+
+def certificates():
+    """The certificates that the transcripts expect, each as its whole text."""
+    with open(f"{TOP}/crates/transcripts/stdout", encoding="utf-8") as file:
+        answers = [line[2:] for line in file if line.startswith("> ")]
+    texts = "".join(answers).split("invring certificate ")[1:]
+    return ["invring certificate " + text[: text.index("\nend\n") + 5] for text in texts]
 
 
 def lay_out(folder):
@@ -26,9 +35,13 @@ def lay_out(folder):
     os.makedirs(source)
     for name in modules:
         shutil.copy(f"{ROWS}/{name}.txt", f"{source}/{name}.rt")
+    with open(f"{source}/written.rt", "w", encoding="utf-8") as file:
+        file.write("//! The certificates of the transcripts.\n\npub(crate) const CERTIFICATES: &[&str] = &[\n")
+        file.writelines(f"    {json.dumps(text)},\n" for text in certificates())
+        file.write("];\n")
     with open(f"{source}/lib.rt", "w", encoding="utf-8") as file:
         file.write("//! Tests that are run and not proved.\n\n")
-        file.writelines(f"#[cfg(test)]\nmod {name};\n" for name in modules)
+        file.writelines(f"#[cfg(test)]\nmod {name};\n" for name in [*modules, "written"])
     with open(f"{TOP}/crates.txt", encoding="utf-8") as file:
         lines = file.read()
     libraries = [line.split(":")[0] for line in lines.splitlines() if ":" in line and not line.startswith("#")]
