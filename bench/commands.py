@@ -58,21 +58,22 @@ CASES = [
     ("ring of the square's symmetries, GF(7)", 7, [images([1, 0], [1]), images([1, 0])], ["ring"]),
     ("ring of the shift of five over GF(7)", 7, [images([1, 2, 3, 4, 0])], ["ring"]),
 ]
-# Groups whose order the characteristic divides, ten of them in at most four variables; the scripts are in examples/.
-MODULAR = [
-    "cyclic_three",
-    "cyclic_four",
-    "two_swaps",
-    "two_transvections",
-    "jordan_four",
-    "two_vectors",
-    "alternating_four",
-    "symmetric_four",
-    "unipotent_two",
-    "unipotent_three",
-    "three_swaps",
-    "two_jordan_three",
-]
+# Groups whose order the characteristic divides, ten of them in at most four variables, and the options that their search
+# needs; the scripts are in examples/.
+MODULAR = {
+    "cyclic_three": "",
+    "cyclic_four": "",
+    "two_swaps": "",
+    "two_transvections": "",
+    "jordan_four": "",
+    "two_vectors": "--tries 65536",
+    "alternating_four": "",
+    "symmetric_four": "",
+    "unipotent_two": "",
+    "unipotent_three": "",
+    "three_swaps": "",
+    "two_jordan_three": "--tries 65536 --max-terms 4096",
+}
 
 
 def example(name):
@@ -83,7 +84,7 @@ def example(name):
     return int(re.search(r"ring \w+=(\d+),", text).group(1)), [c.split(",") for c in cells]
 
 
-CASES += [(f"ring of examples/{name}", *example(name), ["ring"]) for name in MODULAR]
+CASES += [(f"ring of examples/{name}", *example(name), ["ring", *more.split()]) for name, more in MODULAR.items()]
 
 
 def names_of(matrices):
