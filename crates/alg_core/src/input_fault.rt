@@ -1,4 +1,4 @@
-use crate::Name;
+use crate::{Name, ValueKind};
 
 /// What is wrong with an input whose syntax is right. Of several faults the first one of this order is told.
 #[derive(Debug, Drop, PartialEq, Eq)]
@@ -21,4 +21,6 @@ pub enum InputFault {
     NoMatrix,
     /// A matrix has no inverse.
     Singular { name: Name },
+    /// A line of a certificate, from 1, has a value of this kind that it may not have; of several lines the first.
+    Line { line: u64, kind: ValueKind },
 }

@@ -31,10 +31,10 @@ module _ {A : Type 0} where
   by_places (x ∷ xs) (y ∷ ys) l h = ap₂ ◌∷◌ (h 0 x y refl refl) (by_places xs ys (omega arith) (λ j. h (suc j)))
 
 module _ {E : Type 0} where
-  term_of : Entry E → Term E (List ℕ)
+  pub term_of : Entry E → Term E (List ℕ)
   term_of e = record { coef = e.1; at = record { pos = e.0.0; mono = e.0.1 } }
 
-  terms_back : (v : List (Term E (List ℕ))) → map term_of (entries (λ m. m) v) ≡ v
+  pub terms_back : (v : List (Term E (List ℕ))) → map term_of (entries (λ m. m) v) ≡ v
   unfolding term_of
   terms_back [] = refl
   terms_back (t ∷ v) = ap (λ l. t ∷ l) (terms_back v)

@@ -3,3 +3,11 @@ pub mod WellFormed
 pub mod Conditions
 pub mod Properties
 pub mod Makings
+pub mod Work
+pub mod Endings
+pub mod SmallPolynomials
+pub mod CombinationParts
+pub mod EvidenceLines
+pub mod Ends
+pub mod WiderTerms
+pub mod FormTests

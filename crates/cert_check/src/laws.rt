@@ -3,6 +3,8 @@ ghost use Rattle.alg_core.specs.Fields.{FieldOn};
 ghost use Rattle.lin_algebra.specs.declared.matrix.Matrix.{Matrix};
 ghost use Rattle.matrix_group.specs.Groups.{IsNonsingular};
 ghost use Rattle.certificate_io.specs.Certificates.{CertificateOf};
+ghost use Rattle.alg_core.specs.declared.limits.Limits.{Limits};
+ghost use Rattle.cert_check.specs.Ends.{End, IsEnd};
 ghost use Rattle.cert_check.specs.WellFormed.{IsWellFormed};
 ghost use Rattle.cert_check.specs.Conditions.{Holds};
 ghost use Rattle.cert_check.specs.Properties.{HasProperties};
@@ -25,4 +27,10 @@ pub fn made_certificates()
     ensures one { (k : FieldOn ℕ) (gens : List (Matrix ℕ)) (c d : CertificateOf ℕ) (tries : ℕ)
         → IsWellFormed k c gens → IsWellFormed k d gens → c.names ≡ d.names
         → IsMade k gens c tries → IsMade k gens d tries → c ≡ d }
+{}
+
+/// A check ends in one way: it accepts, fails at one item of one condition, or stops at one limit.
+pub fn checks_end_once()
+    ensures one { (k : FieldOn ℕ) (gens : List (Matrix ℕ)) (c : CertificateOf ℕ) (l : Limits) (e f : End)
+        → IsEnd k gens c l e → IsEnd k gens c l f → e ≡ f }
 {}

@@ -30,8 +30,8 @@ mod PartsOfLines
 mod PrintedTrees
 mod ClassCells
 mod PrintedSections
-mod PrintedParts
-mod CertificateParts
+pub mod PrintedParts
+pub mod CertificateParts
 mod CertificateReads
 mod SectionsRead
 mod CertificateMade

@@ -16,7 +16,7 @@ use Rattle.invring_app.specs.declared.fault.Fault.TheVariants as faults
 use Rattle.invring_app.specs.Answers.{IsAnswer, IsFault}
 use Rattle.invring_app.specs.Commands.Demos.{IsDemoBound, IsDemoAnswer}
 use Rattle.invring_app.specs.Commands.Rings.{IsCertificateOf, IsKept, IsRingAnswer}
-use Rattle.invring_app.specs.Endings.{Ending, StopsAt, Answers, AreAlike, AtNothing}
+use Rattle.invring_app.specs.Endings.{Ending, StopsAt, Rejects, Answers, AreAlike, AtNothing}
 use Rattle.invring_app.specs.Faults.{fault_of_script}
 use Rattle.invring_app.specs.Inputs.{NoInput}
 use Rattle.invring_app.specs.RingFaults.{IsRingTold, IsTooLong}
@@ -67,6 +67,9 @@ module _ (k : ℕ) (l : Limits) where
 
   pub demo-one : (e f : Ending) → AtNothing (IsDemoBound k l) (IsDemoAnswer k l) NoInput e → AtNothing (IsDemoBound k l) (IsDemoAnswer k l) NoInput f → AreAlike e f
   demo-one (StopsAt x) (StopsAt y) a b = ring-one (demo_problem k) l (StopsAt x) (StopsAt y) a b
+  demo-one (StopsAt x) (Rejects c i text) a b = absurd b
+  demo-one (Rejects c i text) f a b = absurd a
+  demo-one (Answers text) (Rejects c i other) a b = absurd b
   demo-one (StopsAt x) (Answers text) a b = ring-one (demo_problem k) l (StopsAt x) (Answers (certificate_text b.certificate)) a (as-ring text b)
   demo-one (Answers text) (StopsAt y) a b = ring-one (demo_problem k) l (Answers (certificate_text a.certificate)) (StopsAt y) (as-ring text a) b
   demo-one (Answers text) (Answers other) a b = a.is_text ∙ ap (summary_text k) (certificate-one (demo_problem k) l.tries a.certificate b.certificate a.of_problem b.of_problem) ∙ sym b.is_text

@@ -46,7 +46,7 @@ shape m = (m.rows, m.cols, m.cells.items)
 pub same-action : (k : FieldOn ℕ) (m n : Matrix ℕ) (f : Vect k) → shape m ≡ shape n → act_by k m f ≡ act_by k n f
 same-action k m n f e = ap (λ (s : Shape). act k s.0 (λ i. vector k (slice_index_or (cut s.0 s.1 s.2) i [])) f) e
 
-same-fixed : (k : FieldOn ℕ) (ms ns : List (Matrix ℕ)) (f : Vect k) → map shape ms ≡ map shape ns → All (λ m. act_by k m f ≡ f) ms → All (λ m. act_by k m f ≡ f) ns
+pub same-fixed : (k : FieldOn ℕ) (ms ns : List (Matrix ℕ)) (f : Vect k) → map shape ms ≡ map shape ns → All (λ m. act_by k m f ≡ f) ms → All (λ m. act_by k m f ≡ f) ns
 same-fixed k [] [] f e all = All-nil (λ m. act_by k m f ≡ f)
 same-fixed k [] (n ∷ ns) f e all = absurd cc
 same-fixed k (m ∷ ms) [] f e all = absurd cc

@@ -10,6 +10,12 @@ pub mod NumeralLaws
 pub mod OrderLaws
 pub mod PrimaryEnds
 pub mod PrimaryLines
+pub mod CertificateTexts
+pub mod CheckEnds
+pub mod CheckSteps
+pub mod AcceptedRuns
+pub mod ListedLines
+pub mod ShownLines
 pub mod RunLaws
 pub mod SearchEnds
 pub mod TextLines
@@ -27,7 +33,6 @@ pub mod PrintableParts
 pub mod RankedSteps
 pub mod SameKernels
 pub mod SameCells
-pub mod RisingLists
 pub mod RingCertificates
 pub mod PrimaryDegrees
 pub mod KernelOnce
@@ -46,3 +51,5 @@ pub mod GeneratorSteps
 pub mod GroupSteps
 pub mod SummarySteps
 pub mod DemoEnds
+pub mod OwnDegrees
+pub mod OwnCertificates

@@ -18,7 +18,7 @@ use Rattle.invring_app.specs.declared.status.BoundFault.TheVariants.{TermBound, 
 use Rattle.invring_app.specs.Commands.Bases.{AreMatricesOf, AreNamesOf}
 use Rattle.invring_app.specs.Commands.Orders.{IsOrderBound}
 use Rattle.invring_app.specs.Commands.Primaries.{KeepsOrder, IsSearchStop, IsSearchBound, IsPrimaryBound, IsPrimaryText, IsPrimaryAnswer}
-use Rattle.invring_app.specs.Endings.{Ending, StopsAt, Answers, AreAlike, AtProblem}
+use Rattle.invring_app.specs.Endings.{Ending, StopsAt, Rejects, Answers, AreAlike, AtProblem}
 use Rattle.invring_app.specs.ErrorLines.{bound_pieces, which_word}
 use Rattle.invring_app.specs.Inputs.{OfScript}
 use Rattle.invring_app.specs.Lines.{polynomial_lines, power_lines}
@@ -194,9 +194,12 @@ primary-one q l (StopsAt x) (StopsAt y) (inl a) (inr b) = absurd (kept-not-over 
 primary-one q l (StopsAt x) (StopsAt y) (inr a) (inl b) = absurd (kept-not-over q l y a.0 b)
 primary-one q l (StopsAt x) (StopsAt y) (inr a) (inr b) =
     stops-one q l b.1.space x y (stop-at q l x b.1.space a.1 (space-one q a.1.space b.1.space a.1.ground.space b.1.ground.space)) (stop-at q l y b.1.space b.1 refl)
+primary-one q l (StopsAt x) (Rejects c i other) a b = absurd b
+primary-one q l (Rejects c i text) f a b = absurd a
 primary-one q l (StopsAt x) (Answers text) (inl a) b = absurd (kept-not-over q l x b.0 a)
 primary-one q l (StopsAt x) (Answers text) (inr a) b =
     text-no-stop q l a.1.space text x (text-at q l text a.1.space b.1 (space-one q b.1.space a.1.space b.1.ground.space a.1.ground.space)) (stop-at q l x a.1.space a.1 refl)
+primary-one q l (Answers text) (Rejects c i other) a b = absurd b
 primary-one q l (Answers text) (StopsAt y) a (inl b) = absurd (kept-not-over q l y a.0 b)
 primary-one q l (Answers text) (StopsAt y) a (inr b) =
     text-no-stop q l b.1.space text y (text-at q l text b.1.space a.1 (space-one q a.1.space b.1.space a.1.ground.space b.1.ground.space)) (stop-at q l y b.1.space b.1 refl)

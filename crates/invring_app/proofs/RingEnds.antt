@@ -6,7 +6,7 @@ use Rattle.finvar_text.specs.Problems.{Problem}
 use Rattle.invring_app.specs.declared.status.BoundFault.{BoundFault}
 use Rattle.invring_app.specs.Commands.Orders.{IsOrderBound}
 use Rattle.invring_app.specs.Commands.Rings.{IsKept, IsSearchFault, IsRankFault, IsGraphFault, IsImageFault, IsTextFault, IsRingBound, IsRingAnswer}
-use Rattle.invring_app.specs.Endings.{Ending, StopsAt, Answers, AreAlike, AtProblem}
+use Rattle.invring_app.specs.Endings.{Ending, StopsAt, Rejects, Answers, AreAlike, AtProblem}
 use Rattle.invring_app.specs.ErrorLines.{bound_pieces}
 use Rattle.invring_app.specs.Inputs.{OfScript}
 use Rattle.invring_app.proofs.RingStages.{HasGroup, HasFound, HasRanked, HasImages, search-group, found-group, rank-found, ranked-found, graph-ranked, images-ranked, fault-images, kept-images, one-order, no-order, one-search, no-search, one-rank, no-rank, one-graph, no-graph, one-image, no-image, one-text, no-text, one-answer}
@@ -14,15 +14,19 @@ use Rattle.invring_app.proofs.RingStages.{HasGroup, HasFound, HasRanked, HasImag
 -- an ending at a bound of which P holds
 abbrev Stop : (BoundFault → Type 0) → Ending → Type 0
 Stop P (StopsAt f) = P f
+Stop P (Rejects c i text) = ⊥
 Stop P (Answers text) = ⊥
 
 stop-alike : (P : BoundFault → Type 0) → ((f g : BoundFault) → P f → P g → bound_pieces f ≡ bound_pieces g) → (e f : Ending) → Stop P e → Stop P f → AreAlike e f
 stop-alike P one (StopsAt x) (StopsAt y) a b = one x y a b
+stop-alike P one (StopsAt x) (Rejects c i text) a b = absurd b
 stop-alike P one (StopsAt x) (Answers text) a b = absurd b
+stop-alike P one (Rejects c i text) f a b = absurd a
 stop-alike P one (Answers text) f a b = absurd a
 
 stop-holds : (P : BoundFault → Type 0) (X : Type 0) → ((f : BoundFault) → P f → X) → (e : Ending) → Stop P e → X
 stop-holds P X all (StopsAt f) a = all f a
+stop-holds P X all (Rejects c i text) a = absurd a
 stop-holds P X all (Answers text) a = absurd a
 
 -- of the endings of a stage and the later ones, two are alike if those of each are, and they exclude one another
@@ -36,6 +40,7 @@ both A B one apart rest e f (inr a) (inr b) = rest e f a b
 module _ (q : Problem) (l : Limits) where
   abbrev Answered : Ending → Type 0
   Answered (StopsAt f) = ⊥
+  Answered (Rejects c i text) = ⊥
   Answered (Answers text) = IsRingAnswer l q text
 
   -- the endings from each stage on
@@ -64,12 +69,14 @@ module _ (q : Problem) (l : Limits) where
   at-stage (StopsAt f) (inr (inr (inr (inl a)))) = inr (inr (inr (inl a)))
   at-stage (StopsAt f) (inr (inr (inr (inr (inl a))))) = inr (inr (inr (inr (inl a))))
   at-stage (StopsAt f) (inr (inr (inr (inr (inr a))))) = inr (inr (inr (inr (inr (inl a)))))
+  at-stage (Rejects c i text) a = absurd a
   at-stage (Answers text) a = inr (inr (inr (inr (inr (inr a)))))
 
   -- what is past at each
 
   answered-kept : (e : Ending) → Answered e → IsKept q l
   answered-kept (StopsAt f) a = absurd a
+  answered-kept (Rejects c i text) a = absurd a
   answered-kept (Answers text) a = a.kept
 
   text-kept : (e : Ending) → FromText e → IsKept q l
@@ -96,11 +103,14 @@ module _ (q : Problem) (l : Limits) where
 
   answered-alike : (e f : Ending) → Answered e → Answered f → AreAlike e f
   answered-alike (StopsAt x) f a b = absurd a
+  answered-alike (Rejects c i text) f a b = absurd a
+  answered-alike (Answers text) (Rejects c i other) a b = absurd b
   answered-alike (Answers text) (StopsAt y) a b = absurd b
   answered-alike (Answers text) (Answers other) a b = one-answer q l text other a b
 
   text-answer : (f : BoundFault) (e : Ending) → IsTextFault q l f → Answered e → ⊥
   text-answer f (StopsAt x) a b = b
+  text-answer f (Rejects c i text) a b = b
   text-answer f (Answers text) a b = no-text q l f text a b
 
   text-alike : (e f : Ending) → FromText e → FromText f → AreAlike e f

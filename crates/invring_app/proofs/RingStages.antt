@@ -39,7 +39,7 @@ use Rattle.invring_app.proofs.EndingLaws.{space-one, order-one, order-over}
 use Rattle.invring_app.proofs.KernelOnce.{values-one}
 use Rattle.invring_app.proofs.PrimaryDegrees.{degrees-one}
 use Rattle.invring_app.proofs.PrimaryEnds.{stop-at, stops-one, found-one, found-no-stop}
-use Rattle.invring_app.proofs.RisingLists.{over_not_few}
+use Rattle.cert_check.proofs.RisingLists.{over_not_few}
 use Rattle.invring_app.proofs.RingCertificates.{certificate-one}
 use Rattle.invring_app.proofs.SameCells.{same-average}
 use Rattle.invring_app.proofs.SameGraphs.{kernel-by, bound-by, least-one}

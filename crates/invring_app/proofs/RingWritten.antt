@@ -12,19 +12,21 @@ use Rattle.invring_app.specs.declared.status.Status.TheVariants.{Done}
 use Rattle.invring_app.specs.declared.words.Request.{Request}
 use Rattle.invring_app.specs.Commands.{reads, EndsAs}
 use Rattle.invring_app.specs.Commands.Rings.{IsRingBound, IsRingAnswer}
-use Rattle.invring_app.specs.Endings.{Ending, StopsAt, Answers, AtProblem}
+use Rattle.invring_app.specs.Endings.{Ending, StopsAt, Rejects, Answers, AtProblem}
 use Rattle.invring_app.specs.Headline.{WritesCertificate}
-use Rattle.invring_app.specs.Inputs.{Input, NoInput, OfScript, ReadsAs}
+use Rattle.invring_app.specs.Inputs.{Input, NoInput, OfScript, OfCertificate, ReadsAs}
 use Rattle.invring_app.specs.Outcomes.{IsEnd, status_of, output_of, EndsAt, Writing}
 use Rattle.invring_app.proofs.RingCertificates.{ring-certified}
 
 answer-at : (l : Limits) (bytes text : List ℕ) (i : Input) → ReadsAs Script bytes i → AtProblem (IsRingBound l) (IsRingAnswer l) i (Answers text) → (q : Problem) × IsProblemText bytes q × IsRingAnswer l q text
 answer-at l bytes text NoInput h g = absurd h
 answer-at l bytes text (OfScript q) h g = (q, h, g)
+answer-at l bytes text (OfCertificate c) h g = absurd h
 
 module _ (r : Request) (left left' taken taken' : Option (List ℕ)) where
   written-at : (e : Ending) → Done ≡ status_of e → EndsAt r left left' e → Took taken (output_of e) taken' → r.command ≡ Ring → WritesCertificate r.limits.tries left left' taken taken'
   written-at (StopsAt f) done a took ring = absurd cc
+  written-at (Rejects condition item text) done a took ring = absurd cc
   written-at (Answers text) done a took ring =
       let read = subst (λ (c : Command). ReadsAs (reads c) a.bytes a.input) ring a.read in
       let ends = subst (λ (c : Command). EndsAs c r.limits a.input (Answers text)) ring a.ends in

@@ -61,7 +61,7 @@ module _ (ms os : List (Matrix ℕ)) (e : map shape ms ≡ map shape os) where
   same-size : size ms ≡ size os
   same-size = size-shape ms ∙ ap first-rows e ∙ sym (size-shape os)
 
-  same-cells : cells_of ms ≡ cells_of os
+  pub same-cells : cells_of ms ≡ cells_of os
   same-cells = cells-shape ms ∙ ap (map (λ (s : Shape). s.2)) e ∙ sym (cells-shape os)
 
   pub same-average : (k : FieldOn ℕ) (f h : Vect k) → IsAverage k ms f h → IsAverage k os f h

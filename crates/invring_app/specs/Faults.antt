@@ -5,9 +5,16 @@
 --   fault_of_group e    the bound on the elements of the group, or want of memory
 --   fault_of_search e   the bound that the search for primary invariants met, or want of memory
 --   fault_of_rank e     the bound on the number of standard monomials, or want of memory
+--   fault_of_certificate e   a syntax fault at its line, a faulty value on a line, or want of memory
+--   fault_of_check e    the bound that a check met, or want of memory
 --   fault_of_basis e    the element above the cap, or want of memory
 use Rattle.std.specs.Prelude.{ℕ}
-use Rattle.alg_core.specs.declared.place.Place.TheVariants.{Byte}
+use Rattle.alg_core.specs.declared.place.Place.TheVariants.{Byte, Line}
+use Rattle.alg_core.specs.declared.input_fault.InputFault.TheVariants as values
+use Rattle.certificate_io.specs.declared.fault.CertFault.{CertFault}
+use Rattle.certificate_io.specs.declared.fault.CertFault.TheVariants as certificates
+use Rattle.cert_check.specs.declared.verdict.CheckRefusal.{CheckRefusal}
+use Rattle.cert_check.specs.declared.verdict.CheckRefusal.TheVariants as refusals
 use Rattle.finvar_text.specs.declared.fault.ScriptFault.{ScriptFault}
 use Rattle.finvar_text.specs.declared.fault.ScriptFault.TheVariants as scripts
 use Rattle.invariant_space.specs.declared.fault.SpaceFault.{SpaceFault}
@@ -46,6 +53,19 @@ fault_of_search searches.Memory = Memory
 abbrev pub fault_of_rank : RankFault → Fault
 fault_of_rank (ranks.RankBound counted) = Bound (RankBound counted)
 fault_of_rank ranks.Memory = Memory
+
+-- a syntax fault at its line, a faulty value on a line, or want of memory
+abbrev pub fault_of_certificate : CertFault → Fault
+fault_of_certificate (certificates.Syntax line) = Syntax (Line line)
+fault_of_certificate (certificates.Value line kind) = Input (values.Line line kind)
+fault_of_certificate certificates.Memory = Memory
+
+-- the bound that a check met, or want of memory
+abbrev pub fault_of_check : CheckRefusal → Fault
+fault_of_check (refusals.GroupBound counted) = Bound (GroupBound counted)
+fault_of_check (refusals.RankBound counted) = Bound (RankBound counted)
+fault_of_check (refusals.TermBound degree count) = Bound (TermBound degree count)
+fault_of_check refusals.Memory = Memory
 
 abbrev pub fault_of_basis : BasisFault ℕ → Fault
 fault_of_basis (bases.Above b) = Bound (BasisBound b.which b.vector b.degree)

@@ -22,3 +22,5 @@ pub mod Headline
 pub mod EvidenceLines
 pub mod RankedScripts
 pub mod GeneratingParts
+pub mod CheckFaults
+pub mod OwnCertificates

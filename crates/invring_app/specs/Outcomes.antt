@@ -3,6 +3,7 @@
 --   exit_code status        the exit status of the program
 --   refused_with x          the status of a run whose bytes were refused so
 --   status_of e, output_of e   the status of a run that ends so, and what it writes
+--   status_with v           the status of a run that wrote its text, with the verdict v on the certificate that it read
 --   status_after result     the status of a run, done where it did not fail
 --   status_of_read, status_of_fault   the status where reading failed, and where there is no answer
 --   IsEnd status            the run came to an ending
@@ -17,17 +18,22 @@
 --   Completes r s l f f' g g'   where what was left reads as an input and no count rose, the status is that of an ending there, or
 --                           memory was refused
 --   IsCommandOf ws c     the words ask for the command c; for none where they are no request
---   error_line c s       the error line of a run of the command c, or of one whose words are no command: that of its status
+--   told_by c s          what the error stream gets of the status of a run of the command c: its line; nothing where `check` rejects, which
+--                        writes it on the output
+--   error_line c s       the error line of a run of the command c, or of one whose words are no command
 use Rattle.std.specs.Prelude.{◌≡◌, ◌⊎◌, ℕ, ◌+◌, ◌<◌, ◌≤◌, List, [], length, take, Option, Some, None, Result, Ok, Err}
 use Rattle.inv_outside.specs.Outside.{Rose, Gave, Took}
 use Rattle.inv_outside.specs.declared.whole.ReadFault.{ReadFault as ReadingFault}
 use Rattle.inv_outside.specs.declared.whole.ReadFault.TheVariants as reading
+use Rattle.cert_check.specs.declared.verdict.Verdict.{Verdict}
+use Rattle.cert_check.specs.declared.verdict.Verdict.TheVariants as verdicts
 use Rattle.invring_app.specs.declared.fault.Fault.{Fault}
 use Rattle.invring_app.specs.declared.fault.Fault.TheVariants as faults
 use Rattle.invring_app.specs.declared.status.Status.{Status}
-use Rattle.invring_app.specs.declared.status.Status.TheVariants.{Done, Usage, Syntax, Input, Bound, ReadFault, WriteFault, Memory}
+use Rattle.invring_app.specs.declared.status.Status.TheVariants.{Done, Rejected, Usage, Syntax, Input, Bound, ReadFault, WriteFault, Memory}
 use Rattle.invring_app.specs.declared.words.Request.{Request}
 use Rattle.invring_app.specs.declared.commands.Command.{Command}
+use Rattle.invring_app.specs.declared.commands.Command.TheVariants as commands
 use Rattle.invring_app.specs.Answers.{Ends}
 use Rattle.invring_app.specs.Commands.{reads}
 use Rattle.invring_app.specs.Endings as endings
@@ -37,6 +43,7 @@ use Rattle.invring_app.specs.Words.{IsRequest}
 
 abbrev pub exit_code : Status → ℕ
 exit_code Done = 0
+exit_code (Rejected verdict) = 1
 exit_code Usage = 2
 exit_code (Syntax place) = 3
 exit_code (Input fault) = 4
@@ -51,10 +58,17 @@ refused_with (inputs.Faulty f) = Input f
 
 abbrev pub status_of : endings.Ending → Status
 status_of (endings.StopsAt f) = Bound f
+status_of (endings.Rejects condition item text) = Rejected (verdicts.Rejected condition item)
 status_of (endings.Answers text) = Done
+
+-- the status where a text is written, with a verdict on the certificate that was read
+abbrev pub status_with : Verdict → Status
+status_with verdicts.Accepted = Done
+status_with (verdicts.Rejected condition item) = Rejected (verdicts.Rejected condition item)
 
 abbrev pub output_of : endings.Ending → List ℕ
 output_of (endings.StopsAt f) = []
+output_of (endings.Rejects condition item text) = text
 output_of (endings.Answers text) = text
 
 abbrev pub status_after : {T : Type 0} → Result T Status → Status
@@ -73,6 +87,7 @@ status_of_fault faults.Memory = Memory
 
 abbrev pub IsEnd : Status → Type 0
 IsEnd Done = Unit {0}
+IsEnd (Rejected verdict) = Unit {0}
 IsEnd Usage = ⊥
 IsEnd (Syntax place) = ⊥
 IsEnd (Input fault) = ⊥
@@ -83,6 +98,7 @@ IsEnd Memory = ⊥
 
 abbrev pub Writes : Status → Type 0
 Writes Done = Unit {0}
+Writes (Rejected verdict) = Unit {0}
 Writes Usage = ⊥
 Writes (Syntax place) = ⊥
 Writes (Input fault) = ⊥
@@ -116,5 +132,11 @@ abbrev pub IsCommandOf : List (List ℕ) → Option Command → Type 0
 IsCommandOf words None = (r : Request) → ¬ IsRequest words r
 IsCommandOf words (Some c) = (r : Request) × IsRequest words r × (r.command ≡ c)
 
+-- a refusal of `check` stands on the output
+abbrev pub told_by : Command → Status → List ℕ
+told_by commands.Check (Rejected verdict) = []
+told_by c status = status_line status
+
 abbrev pub error_line : Option Command → Status → List ℕ
-error_line c status = status_line status
+error_line None status = status_line status
+error_line (Some c) status = told_by c status

@@ -2,11 +2,14 @@
 
 ghost use Rattle.std.specs.Prelude.{◌≡◌, ◌≢◌, ◌<◌, ◌≤◌, ℕ, length, map, take, OnOk, OnErr, IsErr};
 ghost use Rattle.inv_outside.specs.Outside.{Rose, Took};
-ghost use Rattle.invring_app.specs.ErrorLines.{piece_text, line_of, bound_pieces, input_pieces, place_pieces, status_line, which_word};
+ghost use Rattle.invring_app.specs.ErrorLines.{piece_text, line_of, bound_pieces, input_pieces, kind_word, place_pieces, status_line, verdict_pieces, which_word};
+ghost use Rattle.invring_app.specs.Outcomes.{told_by};
 ghost use Rattle.invring_app.specs.declared.status.Status.TheVariants as ends;
 
+use crate::commands::Command;
 use crate::status::{BoundFault, Status};
-use alg_core::{InputFault, Place};
+use alg_core::{InputFault, Place, ValueKind};
+use cert_check::Verdict;
 use inv_outside::{Failed, Sink, write_all};
 use module_groebner::Which;
 use poly_text::Digits;
@@ -36,6 +39,27 @@ fn place_line<'a>(place: Place) -> [Piece<'a>; 4]
             none,
             none,
         ],
+    }
+}
+
+/// How a fault of a value is called.
+fn kind_piece<'a>(kind: ValueKind) -> Piece<'a>
+    ensures is { piece_text result ≡ kind_word kind }
+{
+    match kind {
+        ValueKind::Name => Piece::Text(b"name"),
+        ValueKind::Index => Piece::Text(b"index"),
+        ValueKind::Factor => Piece::Text(b"factor"),
+        ValueKind::Exponent => Piece::Text(b"exponent"),
+        ValueKind::Coefficient => Piece::Text(b"coefficient"),
+        ValueKind::Degree => Piece::Text(b"degree"),
+        ValueKind::Order => Piece::Text(b"order"),
+        ValueKind::Field => Piece::Text(b"field"),
+        ValueKind::Variables => Piece::Text(b"variables"),
+        ValueKind::Twice => Piece::Text(b"twice"),
+        ValueKind::Size => Piece::Text(b"size"),
+        ValueKind::Power => Piece::Text(b"power"),
+        ValueKind::Count => Piece::Text(b"count"),
     }
 }
 
@@ -80,6 +104,12 @@ fn input_line<'a>(fault: &'a InputFault) -> [Piece<'a>; 4]
             Piece::Text(name.bytes()),
             none,
             none,
+        ],
+        InputFault::Line { line, kind } => [
+            Piece::Text(b"input line "),
+            Piece::Number(u128::from(*line)),
+            Piece::Text(b" "),
+            kind_piece(*kind),
         ],
     }
 }
@@ -146,6 +176,22 @@ fn bound_line<'a>(fault: &BoundFault) -> [Piece<'a>; 4]
     }
 }
 
+/// The pieces of the line of a verdict.
+fn verdict_line<'a>(verdict: Verdict) -> [Piece<'a>; 4]
+    ensures is { line_of (map piece_text result) ≡ line_of (verdict_pieces verdict) }
+{
+    let none = Piece::Text(b"");
+    match verdict {
+        Verdict::Accepted => [Piece::Text(b"accepted"), none, none, none],
+        Verdict::Rejected { condition, item } => [
+            Piece::Text(b"rejected K"),
+            Piece::Number(u128::from(condition)),
+            Piece::Text(b" "),
+            Piece::Number(u128::from(item)),
+        ],
+    }
+}
+
 /// The pieces of the line of a status; of `Done` there is none.
 fn line_pieces<'a>(status: &'a Status) -> [Piece<'a>; 4]
     ensures is { status.now ≢ ends.Done → line_of (map piece_text result) ≡ status_line status.now }
@@ -153,6 +199,7 @@ fn line_pieces<'a>(status: &'a Status) -> [Piece<'a>; 4]
     let none = Piece::Text(b"");
     match status {
         Status::Done => [none, none, none, none],
+        Status::Rejected(verdict) => verdict_line(*verdict),
         Status::Usage => [Piece::Text(b"usage"), none, none, none],
         Status::Syntax(place) => place_line(*place),
         Status::Input(fault) => input_line(fault),
@@ -208,4 +255,19 @@ pub fn write_error<E: Sink>(err: &mut E, status: &Status) -> Result<(), Failed>
     }
     let pieces = line_pieces(status);
     write_line(err, &pieces)
+}
+
+/// Writes what the error stream gets of the status of a run of the command: its line, but where `check` rejects,
+/// since that stands on the output. It takes no memory.
+pub(crate) fn tell<E: Sink>(err: &mut E, command: Command, status: &Status) -> Result<(), Failed>
+    ensures ok { OnOk result (Took (E.taken err.old) (told_by command status.now) (E.taken err.new)) }
+    ensures err { OnErr result ((k : ℕ) × (k ≤ length (told_by command status.now))
+        × Took (E.taken err.old) (take k (told_by command status.now)) (E.taken err.new)) }
+    ensures cause { IsErr result → Rose (E.faults err.old) (E.faults err.new) }
+    ensures quiet { status.now ≡ ends.Done → err.new ≡ err.old }
+{
+    if let (Command::Check, Status::Rejected(_)) = (command, status) {
+        return Ok(());
+    }
+    write_error(err, status)
 }

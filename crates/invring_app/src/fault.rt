@@ -1,5 +1,7 @@
 use crate::status::BoundFault;
 use alg_core::{InputFault, Memory, Place};
+use cert_check::CheckRefusal;
+use certificate_io::CertFault;
 use finvar_text::ScriptFault;
 use invariant_space::SpaceFault;
 use matrix_group::GroupFault;
@@ -10,9 +12,9 @@ use primary_search::SearchFault;
 /// Why bytes have no answer.
 #[derive(Drop)]
 pub enum Fault {
-    /// They are no script.
+    /// They are no script, or no certificate.
     Syntax(Place),
-    /// They are too many, or a script with a faulty value.
+    /// They are too many, or a script or a certificate with a faulty value.
     Input(InputFault),
     Bound(BoundFault),
     Memory,
@@ -40,6 +42,41 @@ impl From<ScriptFault> for Fault {
             ScriptFault::Syntax { place } => Fault::Syntax(Place::Byte(place)),
             ScriptFault::Input(fault) => Fault::Input(fault),
             ScriptFault::Memory => Fault::Memory,
+        }
+    }
+}
+
+impl From<CertFault> for Fault {
+    ghost use Rattle.invring_app.specs.Faults.{fault_of_certificate};
+    ghost use Rattle.std.specs.Prelude.{◌≡◌};
+
+    ghost from_gives = { λ e f. f ≡ fault_of_certificate e };
+
+    fn from(fault: CertFault) -> Fault {
+        match fault {
+            CertFault::Syntax { line } => Fault::Syntax(Place::Line(line)),
+            CertFault::Value { line, kind } => Fault::Input(InputFault::Line { line, kind }),
+            CertFault::Memory => Fault::Memory,
+        }
+    }
+}
+
+impl From<CheckRefusal> for Fault {
+    ghost use Rattle.invring_app.specs.Faults.{fault_of_check};
+    ghost use Rattle.std.specs.Prelude.{◌≡◌};
+
+    ghost from_gives = { λ e f. f ≡ fault_of_check e };
+
+    fn from(fault: CheckRefusal) -> Fault {
+        match fault {
+            CheckRefusal::GroupBound { counted } => {
+                Fault::Bound(BoundFault::GroupBound { counted })
+            }
+            CheckRefusal::RankBound { counted } => Fault::Bound(BoundFault::RankBound { counted }),
+            CheckRefusal::TermBound { degree, count } => {
+                Fault::Bound(BoundFault::TermBound { degree, count })
+            }
+            CheckRefusal::Memory => Fault::Memory,
         }
     }
 }

@@ -1,9 +1,13 @@
 ghost use Rattle.std.specs.Prelude.{◌≡◌, ℕ, List};
+ghost use Rattle.alg_core.specs.declared.limits.Limits.{Limits};
+ghost use Rattle.finvar_text.specs.Problems.{Problem, IsProblemText};
 ghost use Rattle.invring_app.specs.declared.reading.Kind.{Kind};
 ghost use Rattle.invring_app.specs.declared.words.Request.{Request};
 ghost use Rattle.invring_app.specs.Answers.{Ends};
+ghost use Rattle.invring_app.specs.Commands.Rings.{IsRingAnswer};
 ghost use Rattle.invring_app.specs.Endings.{AreAlike, Ending};
 ghost use Rattle.invring_app.specs.Inputs.{Input, IsRefused, ReadsAs, Refusal};
+ghost use Rattle.invring_app.specs.OwnCertificates.{IsAcceptedText};
 ghost use Rattle.invring_app.specs.Words.{IsRequest};
 
 /// Words are at most one command.
@@ -21,4 +25,9 @@ pub fn bytes_are_read_once()
 /// A request ends in one way at what was read: it has one text, one bound, and not both.
 pub fn requests_end_once()
     ensures one { (r : Request) (i : Input) (e f : Ending) → Ends r i e → Ends r i f → AreAlike e f }
+{}
+
+/// Under the limits with which `ring` made a certificate, `check` accepts it: it meets no bound at it, and each condition holds.
+pub fn own_certificates_accepted()
+    ensures accepted { (l : Limits) (q : Problem) (bytes text : List ℕ) → IsProblemText bytes q → IsRingAnswer l q text → IsAcceptedText l text }
 {}

@@ -1,4 +1,4 @@
-//! The call of the program: it reads the words and a script, and writes what they ask for.
+//! The call of the program: it reads the words and a script or a certificate, and writes what they ask for.
 #![tactic(auto)]
 
 mod arguments;
@@ -14,10 +14,11 @@ mod status;
 mod top_call;
 mod words;
 
-pub use commands::{Command, ring_text};
+pub use cert_check::Verdict;
+pub use commands::{Command, check_text, ring_text};
 pub use error_line::write_error;
-pub use fault::Fault as RingFault;
-pub use laws::{bytes_are_read_once, requests_end_once, words_ask_once};
+pub use fault::{Fault as CheckFault, Fault as RingFault};
+pub use laws::{bytes_are_read_once, own_certificates_accepted, requests_end_once, words_ask_once};
 pub use status::{BoundFault, Status};
 pub use top_call::run;
 pub use words::Request;

@@ -13,10 +13,14 @@ use std::alloc::Global;
 pub(crate) enum Kind {
     Nothing,
     Script,
+    Certificate,
 }
 
 /// The greatest length of a script, in bytes.
 const MAX_SCRIPT: usize = 16777216;
+
+/// The greatest length of a certificate, in bytes.
+pub(crate) const MAX_CERTIFICATE: usize = 268435456;
 
 /// Reads what is to be read: all that the source has, or one byte more than may come.
 pub(crate) fn read_input<S: Source>(
@@ -33,6 +37,10 @@ pub(crate) fn read_input<S: Source>(
         Kind::Nothing => Ok(Vec::new(alloc)),
         Kind::Script => {
             let bytes = read_all(alloc, src, MAX_SCRIPT)?;
+            Ok(bytes)
+        }
+        Kind::Certificate => {
+            let bytes = read_all(alloc, src, MAX_CERTIFICATE)?;
             Ok(bytes)
         }
     }

@@ -1,5 +1,6 @@
 use crate::fault::Fault;
 use alg_core::{InputFault, Mono, Place};
+use cert_check::Verdict;
 use inv_outside::{Failed, ReadFault};
 use module_groebner::Which;
 use poly_module::{Poly, Vector};
@@ -42,11 +43,13 @@ pub enum BoundFault {
 #[derive(Drop)]
 pub enum Status {
     Done,
+    /// A certificate does not hold: its first condition that fails, and the item; never `Accepted`.
+    Rejected(Verdict),
     /// The words are no command.
     Usage,
-    /// The bytes are no script.
+    /// The bytes are no script, or no certificate.
     Syntax(Place),
-    /// They are too many, or a script with a faulty value.
+    /// They are too many, or a script or a certificate with a faulty value.
     Input(InputFault),
     Bound(BoundFault),
     /// The source failed.
@@ -67,6 +70,7 @@ impl Status {
     {
         match self {
             Status::Done => 0,
+            Status::Rejected(_) => 1,
             Status::Usage => 2,
             Status::Syntax(_) => 3,
             Status::Input(_) => 4,

@@ -4,13 +4,14 @@ ghost use Rattle.inv_outside.specs.Outside.{Rose, Took};
 ghost use Rattle.invring_app.specs.Commands.{IsNumberOf, reads};
 ghost use Rattle.invring_app.specs.declared.commands.Command.{Command as Asked};
 ghost use Rattle.invring_app.specs.declared.words.Request.{Request};
-ghost use Rattle.invring_app.specs.Headline.{WritesCertificate};
+ghost use Rattle.invring_app.specs.Headline.{AcceptsCertificate, WritesCertificate};
+ghost use Rattle.invring_app.specs.declared.reading.Kind.TheVariants as kinds;
 ghost use Rattle.invring_app.specs.Inputs.{IsReading};
 ghost use Rattle.invring_app.specs.Outcomes.{status_after, Reading, Writing, Completes, Writes, IsCommandOf, error_line};
 ghost use Rattle.invring_app.specs.Words.{IsRequest};
 
-use crate::commands::{answer, input_of};
-use crate::error_line::write_error;
+use crate::commands::{answer_to, input_of, outcome};
+use crate::error_line::{tell, write_error};
 use crate::reading::read_input;
 use crate::status::Status;
 use crate::words::{Request as Wanted, read_words};
@@ -21,8 +22,9 @@ use std::alloc::Global;
 ///
 /// Of several faults the first one is answered, in the order words, reading, length, syntax,
 /// values, bounds, writing; `Memory` may come wherever the words are a command. All of the output is
-/// made before its first byte is written. At every status but `Done` one line goes to `err`; a
-/// fault of `err` leaves the status as it is.
+/// made before its first byte is written. At every status but `Done` one line goes to `err`, and none
+/// where `check` rejects a certificate, since that line is its output; a fault of `err` leaves the status
+/// as it is.
 pub fn run<S: Source, O: Sink, E: Sink>(
     alloc: Global,
     words: &[String],
@@ -47,6 +49,10 @@ pub fn run<S: Source, O: Sink, E: Sink>(
     ensures certified { (r : Request) → IsRequest (map string_bytes words.now) r → r.command ≡ Asked.Ring → result ≡ Status.Done
         → WritesCertificate r.limits.tries (S.left src.old) (S.left src.new) (O.taken out.old) (O.taken out.new) }
 
+    // Where `check` or `show` is done, the source gave a certificate that holds.
+    ensures accepted { (r : Request) → IsRequest (map string_bytes words.now) r → reads r.command ≡ kinds.Certificate
+        → result ≡ Status.Done → AcceptsCertificate r.limits (S.left src.old) (S.left src.new) }
+
     // The error line: its front, all of it where `err` had no fault, and nothing where the run is done.
     ensures line { (c : Option Asked) → IsCommandOf (map string_bytes words.now) c
         → (k : ℕ) × (k ≤ length (error_line c result)) × Took (E.taken err.old) (take k (error_line c result)) (E.taken err.new) }
@@ -59,7 +65,7 @@ pub fn run<S: Source, O: Sink, E: Sink>(
         return Status::Usage;
     };
     let status = Status::after(work(alloc, request, src, out));
-    let _ = write_error(err, &status);
+    let _ = tell(err, request.command, &status);
     status
 }
 
@@ -82,7 +88,7 @@ fn work<S: Source, O: Sink>(
     ensures silent { ¬ Writes (status_after result) → out.new ≡ out.old }
 {
     let bytes = read_input(alloc, src, input_of(request.command))?;
-    let text = answer(alloc, request, &bytes)?;
-    write_all(out, &text)?;
-    Ok(())
+    let answer = answer_to(alloc, request, &bytes)?;
+    write_all(out, &answer.text)?;
+    outcome(answer.verdict)
 }

@@ -11,8 +11,8 @@ use Rattle.invring_app.specs.declared.status.Status.TheVariants.{Done}
 use Rattle.invring_app.specs.declared.words.Request.{Request}
 use Rattle.invring_app.specs.Commands.{reads, EndsAs}
 use Rattle.invring_app.specs.Commands.Bases.{IsBasisText}
-use Rattle.invring_app.specs.Endings.{Ending, StopsAt, Answers}
-use Rattle.invring_app.specs.Inputs.{Input, NoInput, OfScript, ReadsAs, Takes}
+use Rattle.invring_app.specs.Endings.{Ending, StopsAt, Rejects, Answers}
+use Rattle.invring_app.specs.Inputs.{Input, NoInput, OfScript, OfCertificate, ReadsAs, Takes}
 use Rattle.invring_app.specs.Outcomes.{status_of, output_of, IsEnd, EndsAt, Writing}
 
 -- what came is all that was told
@@ -25,6 +25,7 @@ all-came d script bytes (Some rest) q takes text =
 basis-at : (d : ℕ) (l : Limits) (script bytes text : List ℕ) (left' : Option (List ℕ)) (i : Input) → Takes (reads (Basis d)) (Some script) bytes left' → ReadsAs (reads (Basis d)) bytes i → EndsAs (Basis d) l i (Answers text)
     → (q : Problem) × IsProblemText script q × IsBasisText q d text
 basis-at d l script bytes text left' NoInput takes read ends = absurd read
+basis-at d l script bytes text left' (OfCertificate c) takes read ends = absurd read
 basis-at d l script bytes text left' (OfScript q) takes read ends = (q, all-came d script bytes left' q takes read, ends.1)
 
 basis-of : (c : Command) (d : ℕ) (l : Limits) (script bytes text : List ℕ) (left' : Option (List ℕ)) (i : Input) → c ≡ Basis d → Takes (reads c) (Some script) bytes left' → ReadsAs (reads c) bytes i → EndsAs c l i (Answers text)
@@ -36,6 +37,7 @@ basis-of c d l script bytes text left' i is takes read ends =
 ended-basis : (r : Request) (d : ℕ) (script taken' : List ℕ) (left' : Option (List ℕ)) (e : Ending) → r.command ≡ Basis d → Done ≡ status_of e → EndsAt r (Some script) left' e → Took (Some []) (output_of e) (Some taken')
     → (q : Problem) × IsProblemText script q × IsBasisText q d taken'
 ended-basis r d script taken' left' (StopsAt f) is ended at took = absurd cc
+ended-basis r d script taken' left' (Rejects a i text) is ended at took = absurd cc
 ended-basis r d script taken' left' (Answers text) is ended at took =
     let basis = basis-of r.command d r.limits script at.bytes text left' at.input is at.takes at.read at.ends in
     (basis.0, basis.1, subst (IsBasisText basis.0 d) (sym took) basis.2)

@@ -1,0 +1,5 @@
+use Rattle.invring_app.proofs.OwnCertificates.{own-accepted}
+use Rattle.invring_app.proofs.laws.own_certificates_accepted.Goals as goal
+
+pub returns : goal.returns
+returns c = record { accepted = own-accepted }
