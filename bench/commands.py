@@ -1,13 +1,16 @@
 #!/usr/bin/env python3
 """Times whole commands on given scripts and prints a table: seconds (least and median of some runs)
-and the peak of memory. Beside them Singular's finvar.lib on the same task, where it is installed and
+and the peak of memory; beside `ring` the time that `check` takes for the certificate, as a part of that of
+`ring`. Beside them Singular's finvar.lib on the same task, where it is installed and
 has a procedure for the task alone, as a ratio in the same run. Outside the gate; run it on an idle
-machine.
+machine. The program is the one that the variable INVRING of the environment names, else the proved one that
+stands in crates/invring/out.
 
     bench/commands.py [RUNS [COMMAND ..]]"""
 import math
 import os
 import re
+import resource
 import shutil
 import statistics
 import subprocess
@@ -17,7 +20,7 @@ import threading
 import time
 
 TOP = os.path.dirname(os.path.dirname(os.path.abspath(__file__)))
-PROGRAM = os.path.join(TOP, "crates", "invring", "out", "invring")
+PROGRAM = os.environ.get("INVRING") or os.path.join(TOP, "crates", "invring", "out", "invring")
 
 
 def images(variables, signs=()):
@@ -101,23 +104,36 @@ def script(p, matrices):
     return f"ring R={p},({','.join(names_of(matrices))}),dp; {declared(matrices)}"
 
 
-def run(words, text, longest=120):
-    """One run: seconds, peak of memory in MB, lines of output. None where it failed or took longer, in seconds."""
-    with tempfile.TemporaryFile() as given, tempfile.TemporaryFile() as out:
-        given.write(text.encode())
+def measured(words, text, longest, megabytes=None):
+    """One run: exit status, seconds, peak of memory in MB, output, error stream. The status is negative where it was killed: it
+    is where it takes longer, in seconds. It gets no more memory than that where a limit is given."""
+    limit = (lambda: resource.setrlimit(resource.RLIMIT_AS, (megabytes << 20,) * 2)) if megabytes else None
+    with tempfile.TemporaryFile() as given, tempfile.TemporaryFile() as out, tempfile.TemporaryFile() as errors:
+        given.write(text if isinstance(text, bytes) else text.encode())
         given.seek(0)
         begun = time.perf_counter()
-        child = subprocess.Popen(words, stdin=given, stdout=out, stderr=subprocess.DEVNULL)
+        child = subprocess.Popen(words, stdin=given, stdout=out, stderr=errors, preexec_fn=limit)
         stop = threading.Timer(longest, child.kill)
         stop.start()
         _, status, usage = os.wait4(child.pid, 0)
         stop.cancel()
         seconds = time.perf_counter() - begun
         out.seek(0)
-        lines = out.read().count(b"\n")
-    if os.waitstatus_to_exitcode(status) != 0:
-        return None
-    return seconds, usage.ru_maxrss / 1024, lines
+        errors.seek(0)
+        return os.waitstatus_to_exitcode(status), seconds, usage.ru_maxrss / 1024, out.read(), errors.read()
+
+
+def run(words, text, longest=120):
+    """One run: seconds, peak of memory in MB, the output. None where it failed or took longer, in seconds."""
+    status, seconds, memory, output, _ = measured(words, text, longest)
+    return (seconds, memory, output) if status == 0 else None
+
+
+def checked(words, certificate, runs):
+    """The least seconds that `check` takes for a certificate of `ring`; None where it does not accept it."""
+    got = [run([PROGRAM, "check", *words[1:]], certificate) for _ in range(runs)]
+    accepted = all(g and g[2] == b"accepted\n" for g in got)
+    return min(g[0] for g in got) if accepted else None
 
 
 def singular(p, matrices, words):
@@ -128,7 +144,7 @@ def singular(p, matrices, words):
     elif words[0] == "primary":
         task = f"list L=primary_invariants({gens}); L[1];"
     elif words[0] == "ring":
-        task = f"matrix P,S,IS=invariant_ring({gens}); size(S);"
+        task = f"list L=invariant_ring({gens}); ncols(L[2]);"
     else:
         return None
     return f'LIB "finvar.lib"; {script(p, matrices)} {task} quit;'
@@ -140,8 +156,8 @@ def main():
     runs = int(sys.argv[1]) if len(sys.argv) > 1 else 5
     wanted = sys.argv[2:]
     other = shutil.which("Singular")
-    print(f"{'task':<40} {'least s':>8} {'median s':>9} {'MB':>6} {'lines':>6} {'Singular/ours':>14}")
-    ratios = []
+    print(f"{'task':<40} {'least s':>8} {'median s':>9} {'MB':>6} {'lines':>6} {'check/ring':>10} {'Singular/ours':>14}")
+    ratios, checks = [], []
     for name, p, matrices, words in CASES:
         if wanted and words[0] not in wanted:
             continue
@@ -151,6 +167,11 @@ def main():
             print(f"{name:<40} failed")
             continue
         least = min(g[0] for g in got)
+        check = ""
+        if words[0] == "ring":
+            seconds = checked(words, got[0][2], runs)
+            check = "rejected" if seconds is None else f"{seconds / least:.2g}"
+            checks += [seconds / least] if seconds else []
         task = singular(p, matrices, words)
         ratio = "no such task" if task is None else "not installed"
         if other and task:
@@ -161,9 +182,11 @@ def main():
                 ratios.append(min(t[0] for t in theirs) / least)
                 ratio = f"{ratios[-1]:.2g}"
         median = statistics.median(g[0] for g in got)
-        print(f"{name:<40} {least:8.3f} {median:9.3f} {max(g[1] for g in got):6.0f} {got[0][2]:6d} {ratio:>14}")
-    if ratios:
-        print(f"{'geometric mean of the ratios':<40} {statistics.geometric_mean(ratios):>39.2g}")
+        print(f"{name:<40} {least:8.3f} {median:9.3f} {max(g[1] for g in got):6.0f} {got[0][2].count(10):6d} {check:>10} {ratio:>14}")
+    for what, found in [("check/ring", checks), ("Singular/ours", ratios)]:
+        if found:
+            print(f"geometric mean of {what}: {statistics.geometric_mean(found):.2g}")
 
 
-main()
+if __name__ == "__main__":
+    main()

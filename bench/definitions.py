@@ -65,12 +65,15 @@ def dictionary_of(path):
     return " ".join(about), entries
 
 
-def modules_of(folder):
-    """The files of specs/ in the order in which Lib.antt names them."""
-    lib = f"{folder}/specs/Lib.antt"
-    if not os.path.isfile(lib):
+def modules_of(folder, path="Lib", within=""):
+    """The files of specs/ in the order in which Lib.antt names them, each followed by those that it names itself."""
+    file = f"{folder}/specs/{path}.antt"
+    if not os.path.isfile(file):
         return []
-    return re.findall(r"^pub mod (\w+)", "\n".join(lines_of(lib)), re.M)
+    found = []
+    for name in re.findall(r"^pub mod (\w+)", "\n".join(lines_of(file)), re.M):
+        found += [within + name, *modules_of(folder, within + name, f"{within}{name}/")]
+    return found
 
 
 def main():
