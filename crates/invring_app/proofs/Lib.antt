@@ -53,3 +53,14 @@ pub mod SummarySteps
 pub mod DemoEnds
 pub mod OwnDegrees
 pub mod OwnCertificates
+pub mod OwnReadable
+pub mod OwnReadableKept
+pub mod OwnReadableProblems
+pub mod OwnReadablePrinted
+pub mod OwnReadablePowers
+pub mod OwnReadableImages
+pub mod OwnReadableBases
+pub mod OwnReadableAccepted
+pub mod OwnReadableDegrees
+pub mod OwnReadableEvidence
+pub mod OwnReadableLaw
