@@ -1,6 +1,7 @@
 -- Products with linear forms, by the places of quotients.
 use Rattle.invariant_space.proofs.Common.{◌≡◌, ◌⊎◌, ℕ, suc, ◌<◌, ◌≤◌, inl, inr, List, length, get_or, Vec, Global, refl, sym, ap, ap₂, ◌∙◌, arith, All, Option, None, Some, IfNone, IfSome, cases_lt, get_or_past, get_or_read, FieldOn, Has, Scalar, scalars, scalar, scalar_zero, scalar_add, scalar_mul, Mon, monomials, mono, divides_dec, Divides, TermPlace, Key, key, times_key, times_key_cancel, KeyDivides, In, Vect, vectors, coef_at, plus, shift, coef_at_plus, coef_at_zero, variable, variable_vector, Supp, supp_outside, product, plus_product, zero_product, product_linear_left, shift_product, coef_at_act, coef_shift, coef_shift_outside, vector, linear_form, coordinates, IsQuotient, IsTable, IsCoordinates, EachAt, in_contains}
 use Rattle.std.specs.Option.{unwrap_or}
+use Rattle.alg_core.specs.RingLaws.{zero_mul}
 use Rattle.invariant_space.proofs.Places.{element_at}
 use Rattle.invariant_space.proofs.RowPolynomials.{coordinates_at, coordinates_past}
 
@@ -82,6 +83,20 @@ module _ {E : Type 0} (k : FieldOn E) where
       ∙ sym (ap (λ v. coef_at k v t) (plus_product k l ((vectors k).◌·◌ a x) f) ∙ coef_at_plus k (product k l f) (product k ((vectors k).◌·◌ a x) f) t
       ∙ ap ((scalars k).◌+◌ (coef_at k (product k l f) t)) (ap (λ v. coef_at k v t) ((product_linear_left k f).act a x) ∙ coef_at_act k a (product k x f) t
       ∙ ap (λ v. (scalars k).◌*◌ a (coef_at k v t)) (sym (shift_product k (variable j) f))))
+
+  -- a coefficient of the form that is 0 adds nothing
+  pub form_skip : (xs : List E) (j : ℕ) (f : Vect k) (t : Key) (c sum : E) → j < length xs → c ≡ get_or xs j c → c ≡ k.zero
+      → scalar k sum ≡ coef_at k (product k (linear_form k j (vector k xs)) f) t → scalar k sum ≡ coef_at k (product k (linear_form k (suc j) (vector k xs)) f) t
+  unfolding plus variable_vector
+  form_skip xs j f t c sum inside read none was =
+      let l = linear_form k j (vector k xs) in
+      let x = variable_vector k j in
+      let a = vector k xs j in
+      let empty : a ≡ (scalars k).zero = sym (ap (scalar k) (get_or_read xs j c inside read k.zero)) ∙ ap (scalar k) none ∙ scalar_zero k in
+      was
+      ∙ sym (ap (λ v. coef_at k v t) (plus_product k l ((vectors k).◌·◌ a x) f) ∙ coef_at_plus k (product k l f) (product k ((vectors k).◌·◌ a x) f) t
+      ∙ ap ((scalars k).◌+◌ (coef_at k (product k l f) t)) (ap (λ v. coef_at k v t) ((product_linear_left k f).act a x) ∙ coef_at_act k a (product k x f) t
+      ∙ ap (λ b. (scalars k).◌*◌ b (coef_at k (product k x f) t)) empty ∙ zero_mul (scalars k) (coef_at k (product k x f) t)) ∙ (scalars k).add_zero (coef_at k (product k l f) t))
 
   -- a row of coefficients
   pub coordinates_made : (ts : List Key) (v : Vect k) (r : List E) → length r ≡ length ts → All (Has k) r → EachAt (λ s x. (t : Key) → get_or ts s t ≡ t → scalar k x ≡ coef_at k v t) r → IsCoordinates k ts v r

@@ -16,7 +16,7 @@ ghost use Rattle.invariant_space.specs.Images.{IsQuotient, IsTable, IsStep, IsCo
 
 use crate::monomials::{first_sums, next_sums};
 use crate::quotients::table;
-use alg_core::{Field, Memory, Space, TermOrder};
+use alg_core::{Field, Memory, Space, TermOrder, is_zero};
 use lin_algebra::Matrix;
 use poly_module::Poly;
 use std::alloc::Global;
@@ -47,7 +47,7 @@ fn coordinate<F: Field>(field: &F, row: &[F::Elem], place: Option<usize>) -> F::
 }
 
 /// The coefficient at monomial s of the product of a linear form and the polynomial with the
-/// coordinates `row`.
+/// coordinates `row`. Most coefficients of a form are 0, and are passed over.
 fn product_coefficient<F: Field>(
     field: &F,
     form: &[F::Elem],
@@ -66,9 +66,13 @@ fn product_coefficient<F: Field>(
 {
     let mut sum = field.zero();
     for j in 0..table.len() {
+        let coefficient = form[j];
+        if is_zero(field, coefficient) {
+            continue;
+        }
         let quotients = &table[j];
         let value = coordinate(field, row, quotients[s]);
-        sum = field.add(sum, field.mul(form[j], value));
+        sum = field.add(sum, field.mul(coefficient, value));
     }
     sum
 }

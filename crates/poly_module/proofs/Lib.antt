@@ -40,3 +40,4 @@ pub mod Marks
 pub mod RelationIdeals
 pub mod ReducedVariables
 pub mod WalkLaws
+mod SearchSteps

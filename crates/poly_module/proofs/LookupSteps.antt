@@ -5,15 +5,15 @@ use Rattle.std.proofs.lemmas.List.{take_all}
 use Rattle.std.specs.declared.cmp.Ordering.{Ordering}
 use Rattle.std.specs.declared.cmp.Ordering.TheVariants.{Equal}
 use Rattle.std.proofs.lemmas.Cmp.{tied_itself}
-use Rattle.alg_core.specs.Fields.{scalar, scalars}
+use Rattle.alg_core.specs.Fields.{scalar}
 use Rattle.alg_core.specs.Keys.{TermPlace, key}
 use Rattle.alg_core.specs.Vectors.{Entry, coef_at, vec}
 use Rattle.alg_core.specs.declared.term.Term.{Term}
-use Rattle.alg_core.specs.Spaces.{SpaceOver, IsPlace, entry, entries, Fits}
+use Rattle.alg_core.specs.Spaces.{SpaceOver, entry, entries, Fits}
 use Rattle.alg_core.proofs.FittingLists.{fits_unique}
 use Rattle.poly_module.specs.SpaceVectors.{vector_of, IsVector}
 use Rattle.poly_module.proofs.GreatestValues.{take_map}
-use Rattle.poly_module.proofs.EntryCoefficients.{NotAt, no_entry, entry_value}
+use Rattle.poly_module.proofs.EntryCoefficients.{entry_value}
 
 module _ {E M : Type 0} (S : SpaceOver E) (exps : M → List ℕ) where
   abbrev Terms : Type 0
@@ -25,7 +25,7 @@ module _ {E M : Type 0} (S : SpaceOver E) (exps : M → List ℕ) where
   entry_index (y ∷ xs) zero x d w read = ap (entry exps) (sym read)
   entry_index (y ∷ xs) (suc i) x d w read = entry_index xs i x d (omega arith) read
 
-  length_entries : (xs : Terms) → length (entries exps xs) ≡ length xs
+  pub length_entries : (xs : Terms) → length (entries exps xs) ≡ length xs
   length_entries [] = refl
   length_entries (x ∷ xs) = ap suc (length_entries xs)
 
@@ -57,14 +57,7 @@ module _ {E M : Type 0} (S : SpaceOver E) (exps : M → List ℕ) where
   pub entry_same : (x y : Term E M) → S.order.compare (entry exps x).0 (entry exps y).0 ≡ Equal → x.coef ≡ y.coef → entry exps x ≡ entry exps y
   entry_same x y e c = ap₂ (λ (p : TermPlace) (v : E). (p, v)) (S.order.tied _ _ e) c
 
-  -- the places that were passed
-  not_at_append : (p : TermPlace) (es fs : List (Entry E)) → NotAt S p es → NotAt S p fs → NotAt S p (es ++ fs)
-  not_at_append p [] fs h g = g
-  not_at_append p (e ∷ es) fs h g = (h.0, not_at_append p es fs h.1 g)
-
-  pub not_at_more : (p : TermPlace) (xs : Terms) (i : ℕ) (x : Term E M) → i < length xs → x ≡ get_or xs i x → ¬ ((entry exps x).0 ≡ p) → NotAt S p (entries exps (take i xs)) → NotAt S p (entries exps (take (i + 1) xs))
-  not_at_more p xs i x w read other was = subst (NotAt S p) (sym (take_map (entry exps) xs i x w read)) (not_at_append p (entries exps (take i xs)) (entry exps x ∷ []) was (other, tt))
-
+  -- a term at the place that is sought
   pub found : (p : TermPlace) (xs a : Terms) (i : ℕ) (x : Term E M) → xs ≡ a → i < length xs → x ≡ get_or xs i x → S.order.compare (entry exps x).0 p ≡ Equal → IsVector S exps a → scalar S.field x.coef ≡ coef_at S.field (vector_of S exps a) (key p)
   found p xs a i x same w read equal f =
       let fits : Fits S (entries exps xs) = subst (IsVector S exps) (sym same) f in
@@ -72,9 +65,6 @@ module _ {E M : Type 0} (S : SpaceOver E) (exps : M → List ℕ) where
       let inside : i < length (entries exps xs) = let n = length_entries xs in omega arith in
       sym (subst (λ (t : Entry E). coef_at S.field (vec S.field (entries exps xs)) (key t.0) ≡ scalar S.field t.1) e (entry_value S (entries exps xs) i (entry exps x) inside fits))
       ∙ ap₂ (λ l (q : TermPlace). coef_at S.field (vec S.field (entries exps l)) (key q)) same (S.order.tied _ p equal)
-
-  pub not_found : (p : TermPlace) (xs a : Terms) (i : ℕ) → xs ≡ a → length xs ≤ i → IsPlace S p → NotAt S p (entries exps (take i xs)) → IsVector S exps a → coef_at S.field (vector_of S exps a) (key p) ≡ (scalars S.field).zero
-  not_found p xs a i same done place none f = no_entry S (entries exps a) p place f (subst (λ l. NotAt S p (entries exps l)) (take_all i xs done ∙ same) none)
 
 module _ {E : Type 0} (S : SpaceOver E) where
   -- places that compare as other than equal are two

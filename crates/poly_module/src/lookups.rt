@@ -39,7 +39,8 @@ pub fn are_equal<F: Field, O: TermOrder, M: Monomial>(
     true
 }
 
-/// The coefficient of the vector at a position and a monomial: 0 where there is no such term. Takes no memory.
+/// The coefficient of the vector at a position and a monomial: 0 where there is no such term. The terms fall, so it is
+/// sought by halves. Takes no memory.
 pub fn coefficient<F: Field, O: TermOrder, M: Monomial>(
     space: &Space<F, O>,
     a: &Vector<F::Elem, M>,
@@ -52,11 +53,15 @@ pub fn coefficient<F: Field, O: TermOrder, M: Monomial>(
         scalar S.field result ≡ coef_at S.field (vector_of S x a.now) (key (place x at.now)) }
 {
     let terms = a.terms();
-    for i in 0..terms.len() {
-        let t = &terms[i];
+    let mut low = 0;
+    let mut high = terms.len();
+    while low < high {
+        let middle = low + (high - low) / 2;
+        let t = &terms[middle];
         match space.order.compare(&t.at, at) {
             Ordering::Equal => return t.coef,
-            _ => {}
+            Ordering::Greater => low = middle + 1,
+            Ordering::Less => high = middle,
         }
     }
     space.field.zero()

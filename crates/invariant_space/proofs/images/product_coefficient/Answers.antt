@@ -1,6 +1,6 @@
 use Rattle.invariant_space.proofs.Common.{◌≡◌, ◌<◌, ◌+◌, ℕ, suc, length, sym, subst, arith, IfSome, Has, scalar, coef_at, product, vector, linear_form}
 use Rattle.invariant_space.proofs.Places.{element_at}
-use Rattle.invariant_space.proofs.QuotientLaws.{form_none, form_more, quotient_within, table_at, table_within}
+use Rattle.invariant_space.proofs.QuotientLaws.{form_none, form_more, form_skip, quotient_within, table_at, table_within}
 use Rattle.invariant_space.proofs.images.product_coefficient.Goals as goal
 
 pub loop-j-init : goal.loop-j-init
@@ -31,6 +31,19 @@ loop-j-preserved g c =
           subst (λ (j : ℕ). scalar k c.add-sum.result ≡ coef_at k (product k (linear_form k j (vector k c.args.form.now)) f) t) next
           (form_more k c.args.form.now c.loop-j.j f t c.index-form-j.result c.coordinate-value.result c.loop-j.sum c.mul.result c.add-sum.result c.loop-j.invariant.has has c.coordinate-value.ensures.has inside c.index-form-j.is c.mul.ensures.is c.add-sum.ensures.is
           (c.coordinate-value.ensures.multiple below c.loop-j.j t f q keys is) (c.loop-j.invariant.is ts below f t table low at keys is));
+    }
+
+pub loop-j-preserved-then-is_zero : goal.loop-j-preserved-then-is_zero
+loop-j-preserved-then-is_zero g c =
+    let k = g.F.Field.field c.args.field.now in
+    let n = c.requires.form.count in
+    let inside : c.loop-j.j < length c.args.form.now = omega (arith, c.loop-j-test.true) in
+    let next : suc c.loop-j.j ≡ c.loop-j.j + 1 = omega arith in
+    record {
+      has = c.loop-j.invariant.has;
+      is = λ ts below f t table low at keys is.
+          subst (λ (j : ℕ). scalar k c.loop-j.sum ≡ coef_at k (product k (linear_form k j (vector k c.args.form.now)) f) t) next
+          (form_skip k c.args.form.now c.loop-j.j f t c.index-form-j.result c.loop-j.sum inside c.index-form-j.is (c.is_zero.ensures.yes c.if-is_zero.true) (c.loop-j.invariant.is ts below f t table low at keys is));
     }
 
 pub returns-clause-coefficient : goal.returns-clause-coefficient
