@@ -31,7 +31,7 @@ use Rattle.cert_check.specs.Endings.{IsGiven, IsMarkedOf}
 use Rattle.cert_check.specs.Parts.{size, ones, degrees, polynomial, primaries}
 use Rattle.cert_check.specs.SmallPolynomials.{most_degree, IsSmallPoly}
 use Rattle.cert_check.specs.WellFormed.{IsWellFormed, plain, marked}
-use Rattle.cert_check.specs.WiderTerms.{IsUnmarked}
+use Rattle.primary_module.specs.WiderTerms.{IsUnmarked}
 use Rattle.cert_check.proofs.GivenParts.{given_well, given_primaries}
 use Rattle.cert_check.proofs.HoldsParts.{all_at, primaries_in_variables}
 use Rattle.cert_check.proofs.MadeForms.{degree_known, forms_known, positive_known, positive_proper}

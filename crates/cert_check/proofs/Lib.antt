@@ -26,7 +26,6 @@ mod KernelTests
 mod KernelItems
 pub mod RisingLists
 pub mod EndsOnce
-pub mod WiderLaws
 pub mod CheckSpaces
 pub mod CheckedPrimaries
 pub mod CheckedPowers

@@ -9,5 +9,4 @@ pub mod SmallPolynomials
 pub mod CombinationParts
 pub mod EvidenceLines
 pub mod Ends
-pub mod WiderTerms
 pub mod FormTests

@@ -15,7 +15,6 @@ mod leads;
 mod lift_basis;
 mod lifts;
 mod marked;
-mod marks;
 mod powers;
 mod primaries;
 mod rank;

@@ -19,56 +19,12 @@ use crate::leads::leads_are_unmarked;
 use crate::marked::marked_primaries;
 use alg_core::{BlockOrder, Dp, Field, Limits, Memory, Space, TermOrder};
 use certificate_io::Certificate;
+use groebner_hom::relations;
 use lin_algebra::Matrix;
 use module_groebner::is_reduced_basis;
-use poly_module::{Poly, sub, variable};
+use poly_module::Poly;
 use prime_field::PrimeField;
 use std::alloc::Global;
-
-/// The polynomial f less its mark, the j-th, from 0. Both are homogeneous of this degree.
-fn relation<F: Field>(
-    alloc: Global,
-    space: &Space<F, BlockOrder>,
-    f: &Poly<F::Elem>,
-    j: usize,
-    degree: u32,
-) -> Result<Poly<F::Elem>, Memory>
-    requires polynomials { HasPolynomials (mark_space F.field space.now) }
-    requires within { space.now.order.vars + j < length space.now.grading.weights.items }
-    requires f { IsPoly (mark_space F.field space.now) (λ m. m) f.now }
-    requires form { let S = mark_space F.field space.now in IsHomogeneous S degree (vector_of S (λ m. m) f.now) }
-    requires mark { let S = mark_space F.field space.now in IsHomogeneous S degree (variable_vector S.field (space.now.order.vars + j)) }
-    ensures homogeneous { IfOk result (IsHomogeneousPoly (mark_space F.field space.now) degree_limit) }
-    ensures is { let S = mark_space F.field space.now in let of = vector_of S (λ m. m) in
-        IfOk result (λ p. of p ≡ relation S.field space.now.order.vars (of f.now) j) }
-{
-    let mark = variable(alloc, space, space.order.vars as usize + j)?;
-    let less = sub(alloc, space, f, &mark)?;
-    Ok(less)
-}
-
-/// The relations between theta and their marks, in their order.
-fn relations<F: Field>(
-    alloc: Global,
-    space: &Space<F, BlockOrder>,
-    theta: &[Poly<F::Elem>],
-) -> Result<Vec<Poly<F::Elem>>, Memory>
-    requires space { IsMarkSpace (mark_space F.field space.now) space.now.order.vars space.now.order.weights.items }
-    requires polynomials { ArePolys (mark_space F.field space.now) (λ m. m) theta.now }
-    requires forms { let S = mark_space F.field space.now in
-        ArePositiveForms S.field space.now.order.vars space.now.order.weights.items (vectors_of S (λ m. m) theta.now) }
-    ensures homogeneous { IfOk result (λ vs. AreHomogeneousPolys (mark_space F.field space.now) degree_limit vs.items) }
-    ensures are { let S = mark_space F.field space.now in let of = vectors_of S (λ m. m) in
-        IfOk result (λ vs. of vs.items ≡ relations S.field space.now.order.vars (of theta.now)) }
-{
-    let mut made = Vec::new(alloc);
-    for j in 0..theta.len() {
-        let member = &theta[j];
-        let degree = space.order.weights[j];
-        made.push(relation(alloc, space, member, j, degree)?)?;
-    }
-    Ok(made)
-}
 
 /// Whether the polynomials are the lifts of the relations, and no lead of them has a mark.
 fn are_unmarked_lifts<F: Field>(

@@ -8,11 +8,11 @@ ghost use Rattle.cert_check.specs.Conditions.{Lifts, K2};
 ghost use Rattle.cert_check.specs.Endings.{IsGiven, IsMarkedOf};
 ghost use Rattle.cert_check.specs.Work.{Reached};
 
-use crate::marks::all_with_marks;
 use alg_core::{BlockOrder, Dp, Field, Limits, Memory, Space, TermOrder};
 use certificate_io::Certificate;
 use lin_algebra::Matrix;
 use poly_module::Poly;
+use primary_module::all_with_marks;
 use prime_field::PrimeField;
 use secondary_gens::degrees::degrees;
 use std::alloc::Global;

@@ -15,5 +15,5 @@ pub use exponents::least_exponents;
 pub use ideal::{ideal_basis, member};
 pub use laws::{colon_modules, ideals_with_marks, regular_forms};
 pub use least_powers::powers;
-pub use lifts::lifted_basis;
+pub use lifts::{lifted_basis, relations};
 pub use nonzerodivisor::is_nonzerodivisor;

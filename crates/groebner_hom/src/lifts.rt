@@ -39,8 +39,9 @@ fn relation<F: Field>(
     Ok(less)
 }
 
-/// The relations between theta and their marks, in their order.
-fn relations<F: Field>(
+/// The relations between polynomials theta, of the degrees of their marks, and these marks: each of theta less its
+/// mark, in their order. (Derksen and Kemper, Computational Invariant Theory, section 2.4.)
+pub fn relations<F: Field>(
     alloc: Global,
     space: &Space<F, BlockOrder>,
     theta: &[Poly<F::Elem>],

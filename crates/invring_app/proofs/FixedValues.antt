@@ -26,7 +26,7 @@ use Rattle.primary_module.specs.PrimaryModules.{IsLowPoly}
 use Rattle.secondary_gens.specs.Forms.{unit_weights, IsSmallForm}
 use Rattle.syzygy_kernel.specs.declared.member.Member.{Member}
 use Rattle.invring_app.specs.FoundPrimaries.{IsPlain, IsMarkedBeside}
-use Rattle.invring_app.specs.WiderTerms.{AreNarrow}
+use Rattle.invring_app.specs.NarrowTerms.{AreNarrow}
 use Rattle.invring_app.proofs.SmallForms.{small_form}
 
 abbrev Terms : Type 0

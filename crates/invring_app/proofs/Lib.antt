@@ -20,7 +20,6 @@ pub mod RunLaws
 pub mod SearchEnds
 pub mod TextLines
 pub mod WordLaws
-pub mod WiderLaws
 pub mod SmallForms
 pub mod PresentLists
 pub mod AverageSteps

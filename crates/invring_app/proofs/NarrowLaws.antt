@@ -16,8 +16,9 @@ use Rattle.poly_module.specs.SpaceVectors.{HasPolynomials, IsVectorOf, IsPolyOf,
 use Rattle.poly_module.proofs.ExponentBounds.{vec_supp}
 use Rattle.poly_module.proofs.SpaceVectorLaws.{poly_given}
 use Rattle.module_groebner.proofs.Families.{all_in, in_get}
-use Rattle.invring_app.specs.WiderTerms.{IsWiderTerm, AreNarrow}
-use Rattle.invring_app.proofs.WiderLaws.{AreWider, one_entry, more}
+use Rattle.primary_module.specs.WiderTerms.{IsWiderTerm}
+use Rattle.invring_app.specs.NarrowTerms.{AreNarrow}
+use Rattle.primary_module.proofs.WiderLaws.{AreWider, one_entry, more}
 
 exponent_take : (n : ℕ) (a : List ℕ) (i : ℕ) → i < n → exponent (take n a) i ≡ exponent a i
 exponent_take zero a i h = absurd (omega arith)

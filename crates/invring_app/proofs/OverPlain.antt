@@ -27,7 +27,7 @@ use Rattle.secondary_gens.specs.Forms.{degree_of, degrees_of, IsSmallForm}
 use Rattle.secondary_gens.proofs.FormDegrees.{are_forms, positive_small, all_positive}
 use Rattle.cert_check.proofs.MadeLifts.{is_mark_space, marks_positive}
 use Rattle.invring_app.specs.FoundPrimaries.{IsPlain, AreFound, AreFoundOver, IsOver, IsFreeOver}
-use Rattle.invring_app.specs.WiderTerms.{IsUnmarked}
+use Rattle.primary_module.specs.WiderTerms.{IsUnmarked}
 
 abbrev Terms : Type 0
 Terms = List (Term ℕ (List ℕ))

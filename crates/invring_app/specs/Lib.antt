@@ -10,7 +10,7 @@ pub mod WordReading
 pub mod Faults
 pub mod Answers
 pub mod Outcomes
-pub mod WiderTerms
+pub mod NarrowTerms
 pub mod SmallMonomials
 pub mod FoundPrimaries
 pub mod AveragedOver

@@ -16,3 +16,4 @@ pub mod StandardDegrees
 pub mod StandardImages
 pub mod StandardPlaces
 pub mod CoordinateLaws
+pub mod WiderLaws

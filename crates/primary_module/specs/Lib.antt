@@ -1,3 +1,4 @@
 pub mod PrimaryModules
 pub mod Positions
 pub mod UndividedMonomials
+pub mod WiderTerms

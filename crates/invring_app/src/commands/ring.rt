@@ -15,7 +15,6 @@ mod evidence;
 mod generators;
 mod images;
 mod kernels;
-mod marks;
 mod over;
 mod present;
 mod ranked;

@@ -2,7 +2,7 @@ use Rattle.std.proofs.Common.{◌∙◌, ℕ, sym, ap, subst}
 use Rattle.std.specs.Prelude.{All}
 use Rattle.certificate_io.specs.Certificates.{CertificateOf}
 use Rattle.poly_module.specs.SpaceVectors.{vectors_of}
-use Rattle.cert_check.specs.WiderTerms.{IsUnmarked}
+use Rattle.primary_module.specs.WiderTerms.{IsUnmarked}
 use Rattle.cert_check.proofs.CheckSpaces.{plain_of, marks_of}
 use Rattle.cert_check.proofs.CheckedPrimaries.{space_is, unmarked_is}
 use Rattle.cert_check.proofs.marked.marked_primaries.Goals as goal

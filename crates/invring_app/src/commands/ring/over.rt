@@ -12,13 +12,12 @@ ghost use Rattle.primary_module.specs.declared.fault.RankFault.TheVariants as ra
 ghost use Rattle.alg_core.specs.Spaces.{over};
 ghost use Rattle.invring_app.specs.FoundPrimaries.{AreFound, AreFoundOver, IsOver, IsFreeOver};
 
-use super::marks::all_with_marks;
 use alg_core::{BlockOrder, Dp, Field, Memory, Space, TermOrder};
 use finite_certificate::Power;
 use groebner_hom::{lifted_basis, powers};
 use module_groebner::BasisFault;
 use poly_module::Poly;
-use primary_module::{PrimaryModule, RankFault};
+use primary_module::{PrimaryModule, RankFault, all_with_marks};
 use prime_field::PrimeField;
 use secondary_gens::degrees::degrees;
 use std::alloc::Global;

@@ -4,7 +4,8 @@ ghost use Rattle.std.specs.Prelude.{◌≡◌, ◌≤◌, IfOk, length};
 ghost use Rattle.alg_core.specs.Monomials.{mono as monomial_of};
 ghost use Rattle.alg_core.specs.Spaces.{over};
 ghost use Rattle.poly_module.specs.SpaceVectors.{HasPolynomials, IsPolyOf, vector_of};
-ghost use Rattle.invring_app.specs.WiderTerms.{IsWiderTerm, AreNarrow};
+ghost use Rattle.primary_module.specs.WiderTerms.{IsWiderTerm};
+ghost use Rattle.invring_app.specs.NarrowTerms.{AreNarrow};
 
 use alg_core::{Field, Memory, ModTerm, Mono, Monomial, Space, Term, TermOrder};
 use poly_module::{Poly, make};

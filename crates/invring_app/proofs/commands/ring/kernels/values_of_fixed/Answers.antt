@@ -8,7 +8,7 @@ use Rattle.prime_field.specs.PrimeFields.{gfp}
 use Rattle.prime_field.specs.declared.gfp.PrimeField.{PrimeField}
 use Rattle.invring_app.specs.KernelValues.{IsSmallMember}
 use Rattle.invring_app.proofs.FixedSteps.{Valued, valued_past, valued_more, valued_end}
-use Rattle.invring_app.proofs.WiderLaws.{given_member}
+use Rattle.primary_module.proofs.WiderLaws.{given_member}
 use Rattle.invring_app.proofs.commands.ring.kernels.values_of_fixed.Goals as goal
 use Rattle.invring_app.proofs.commands.ring.kernels.values_of_fixed.Goals.{then-member+in_ok-value_of+in_ok-push, else-member}
 

@@ -2,8 +2,9 @@ use Rattle.std.proofs.Common.{◌≡◌, ◌∙◌, length, sym, subst, arith}
 use Rattle.std.proofs.lemmas.List.{take_all}
 use Rattle.alg_core.specs.Spaces.{over}
 use Rattle.poly_module.specs.SpaceVectors.{IsVectorOf, vector_of}
-use Rattle.invring_app.specs.WiderTerms.{IsWiderTerm, AreNarrow}
-use Rattle.invring_app.proofs.WiderLaws.{AreWider}
+use Rattle.primary_module.specs.WiderTerms.{IsWiderTerm}
+use Rattle.invring_app.specs.NarrowTerms.{AreNarrow}
+use Rattle.primary_module.proofs.WiderLaws.{AreWider}
 use Rattle.invring_app.proofs.NarrowLaws.{is_long, is_unmarked, narrower_more, narrower_poly}
 use Rattle.invring_app.proofs.commands.ring.unmarked.without_marks.Goals as goal
 

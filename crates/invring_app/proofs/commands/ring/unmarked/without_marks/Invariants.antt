@@ -1,6 +1,6 @@
 use Rattle.std.proofs.Common.{take}
 use Rattle.alg_core.specs.Spaces.{over}
-use Rattle.invring_app.proofs.WiderLaws.{AreWider}
+use Rattle.primary_module.proofs.WiderLaws.{AreWider}
 use Rattle.invring_app.proofs.commands.ring.unmarked.without_marks.Given as goal
 
 abbrev pub invariant-loop-i : goal.invariant-loop-i

@@ -1,8 +1,8 @@
 use Rattle.std.proofs.Common.{arith}
 use Rattle.finite_certificate.specs.MarkSpaces.{mark_space}
-use Rattle.cert_check.specs.WiderTerms.{IsUnmarked}
-use Rattle.cert_check.proofs.WiderLaws.{polys_more, given_member}
-use Rattle.cert_check.proofs.marks.all_with_marks.Goals as goal
+use Rattle.primary_module.specs.WiderTerms.{IsUnmarked}
+use Rattle.primary_module.proofs.WiderLaws.{polys_more, given_member}
+use Rattle.primary_module.proofs.marks.all_with_marks.Goals as goal
 
 pub with_marks-requires-clause-unmarked : goal.with_marks-requires-clause-unmarked
 with_marks-requires-clause-unmarked g c =

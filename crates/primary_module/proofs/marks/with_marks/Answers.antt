@@ -2,9 +2,9 @@ use Rattle.std.proofs.Common.{◌∙◌, sym, subst, arith}
 use Rattle.std.proofs.lemmas.List.{take_all}
 use Rattle.poly_module.specs.SpaceVectors.{IsVectorOf, vector_of}
 use Rattle.finite_certificate.specs.MarkSpaces.{mark_space}
-use Rattle.invring_app.specs.WiderTerms.{IsUnmarked}
-use Rattle.invring_app.proofs.WiderLaws.{AreWider, wider_more, wider_poly, enough, has_variables}
-use Rattle.invring_app.proofs.commands.ring.marks.with_marks.Goals as goal
+use Rattle.primary_module.specs.WiderTerms.{IsUnmarked}
+use Rattle.primary_module.proofs.WiderLaws.{AreWider, wider_more, wider_poly, enough, has_variables}
+use Rattle.primary_module.proofs.marks.with_marks.Goals as goal
 
 pub wider_term-requires : goal.wider_term-requires
 wider_term-requires g c =

@@ -19,7 +19,7 @@ use Rattle.poly_module.proofs.ExponentBounds.{vec_supp}
 use Rattle.poly_module.proofs.SpaceVectorLaws.{poly_given}
 use Rattle.module_groebner.proofs.Families.{all_in, in_get}
 use Rattle.finite_certificate.specs.MarkSpaces.{IsMarkSpace}
-use Rattle.invring_app.specs.WiderTerms.{IsWiderTerm, IsUnmarked}
+use Rattle.primary_module.specs.WiderTerms.{IsWiderTerm, IsUnmarked}
 
 -- the terms us are ts in more variables
 pub record AreWider {E : Type 0} (S : SpaceOver E) (ts us : List (Term E (List ℕ))) : Type 0 where

@@ -1,7 +1,7 @@
 use Rattle.std.proofs.Common.{◌≡◌, take}
 use Rattle.finite_certificate.specs.MarkSpaces.{mark_space}
 use Rattle.poly_module.specs.SpaceVectors.{ArePolys, vectors_of}
-use Rattle.invring_app.proofs.commands.ring.marks.all_with_marks.Given as goal
+use Rattle.primary_module.proofs.marks.all_with_marks.Given as goal
 
 abbrev pub invariant-loop-i : goal.invariant-loop-i
 invariant-loop-i g l =

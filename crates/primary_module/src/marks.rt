@@ -3,7 +3,7 @@
 ghost use Rattle.std.specs.Prelude.{◌≡◌, ◌≤◌, IfOk, All, length};
 ghost use Rattle.poly_module.specs.SpaceVectors.{IsPolyOf, ArePolys, vector_of, vectors_of};
 ghost use Rattle.finite_certificate.specs.MarkSpaces.{mark_space, IsMarkSpace};
-ghost use Rattle.cert_check.specs.WiderTerms.{IsWiderTerm, IsUnmarked};
+ghost use Rattle.primary_module.specs.WiderTerms.{IsWiderTerm, IsUnmarked};
 
 use alg_core::{BlockOrder, Field, Memory, ModTerm, Mono, Monomial, Space, Term};
 use poly_module::{Poly, make};
@@ -51,8 +51,8 @@ fn with_marks<F: Field>(
     Ok(made)
 }
 
-/// The polynomials in the space with marks.
-pub(crate) fn all_with_marks<F: Field>(
+/// The polynomials, whose terms may lack the exponents of the marks, as polynomials in the space with marks, in their order.
+pub fn all_with_marks<F: Field>(
     alloc: Global,
     space: &Space<F, BlockOrder>,
     fs: &[Poly<F::Elem>],

@@ -1,7 +1,7 @@
 use Rattle.std.proofs.Common.{◌∙◌, ℕ, length, replicate, refl, ap, arith}
 use Rattle.alg_core.specs.Monomials.{mono}
 use Rattle.primary_module.proofs.PaddedExponents.{padded_start, padded_step, padded_mono}
-use Rattle.invring_app.proofs.commands.ring.marks.wider_term.Goals as goal
+use Rattle.primary_module.proofs.marks.wider_term.Goals as goal
 
 pub loop-i-init : goal.loop-i-init
 loop-i-init g c =
