@@ -50,10 +50,10 @@ use Rattle.cert_check.proofs.MadePlaces.{place_in, place_within, place_read, pla
 use Rattle.cert_check.proofs.MadeLists.{place_there}
 use Rattle.invring_app.specs.Commands.Rings.{AreAverages, AreFixedValues}
 use Rattle.invring_app.proofs.OwnReadable.{small-form, small-poly}
-use Rattle.invring_app.proofs.OwnReadableAccepted.{low-order, secondary-degree}
+use Rattle.invring_app.proofs.OwnAccepted.{low-order, secondary-degree}
 use Rattle.invring_app.proofs.OwnReadableBases.{lift-low, value-low}
 use Rattle.invring_app.proofs.OwnReadableImages.{average-degree, beside, complete-some}
-use Rattle.invring_app.proofs.OwnReadableKept.{IsOwn}
+use Rattle.invring_app.proofs.OwnKept.{IsOwn}
 use Rattle.invring_app.proofs.OwnReadablePowers.{power-coordinates, exponent-between, one-in}
 use Rattle.invring_app.proofs.OwnReadablePrinted.{word-form}
 

@@ -45,11 +45,11 @@ use Rattle.cert_check.proofs.MadeLists.{one_standard}
 use Rattle.invring_app.specs.Commands.Rings.{AreAverages, AreFixedValues}
 use Rattle.invring_app.proofs.EndingLaws.{order-one}
 use Rattle.invring_app.proofs.OwnReadable.{small-poly, small-comb}
-use Rattle.invring_app.proofs.OwnReadableAccepted.{order-of}
+use Rattle.invring_app.proofs.OwnAccepted.{order-of}
 use Rattle.invring_app.proofs.OwnReadableBases.{members-low}
 use Rattle.invring_app.proofs.OwnReadableDegrees.{place-of, some-in, forms, few, fixed}
 use Rattle.invring_app.proofs.OwnReadableImages.{average-degree, complete-some}
-use Rattle.invring_app.proofs.OwnReadableKept.{IsOwn}
+use Rattle.invring_app.proofs.OwnKept.{IsOwn}
 use Rattle.invring_app.proofs.OwnReadablePowers.{one-in}
 use Rattle.invring_app.proofs.OwnReadablePrinted.{printed-homogeneous}
 use Rattle.invring_app.proofs.PrimaryDegrees.{degrees-one}

@@ -44,10 +44,10 @@ use Rattle.invring_app.specs.CheckFaults.{IsVerdict}
 use Rattle.invring_app.specs.Commands.Rings.{IsRingAnswer}
 use Rattle.invring_app.specs.OwnCertificates.{HasShortLists}
 use Rattle.invring_app.proofs.OwnReadable.{poly-read, polys-read, comb-read}
-use Rattle.invring_app.proofs.OwnReadableAccepted.{own-passes}
+use Rattle.invring_app.proofs.OwnAccepted.{own-passes}
 use Rattle.invring_app.proofs.OwnReadableDegrees.{own-primaries, own-lifts, own-powers, own-secondaries, own-irreducibles, own-words, own-rank, own-order}
 use Rattle.invring_app.proofs.OwnReadableEvidence.{IsSmallEvidence, own-evidence}
-use Rattle.invring_app.proofs.OwnReadableKept.{IsOwn, own-kept}
+use Rattle.invring_app.proofs.OwnKept.{IsOwn, own-kept}
 use Rattle.invring_app.proofs.OwnReadableProblems.{IsNamed, problem-named}
 use Rattle.invring_app.proofs.PrintableParts.{has_below}
 

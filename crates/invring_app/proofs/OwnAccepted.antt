@@ -1,4 +1,4 @@
--- The check of a certificate that `ring` makes meets no bound, and each condition holds.
+-- Under the limits with which it was made, the check of a certificate that `ring` makes meets no bound, and each condition holds.
 use Rattle.std.proofs.Common.{◌≡◌, ℕ, ◌<◌, ◌≤◌, List, [], ◌∷◌, length, map, refl, sym, ap, ap₂, subst}
 use Rattle.std.specs.Prelude.{All}
 use Rattle.alg_core.specs.Binomials.{monomials_of_degree}
@@ -23,10 +23,12 @@ use Rattle.cert_check.specs.Work.{GroupStop, RankStop, TermStop, Stop, IsPast, K
 use Rattle.cert_check.proofs.MadeHolds.{made_holds}
 use Rattle.cert_check.proofs.MadePlaces.{place_in}
 use Rattle.invring_app.specs.Commands.Orders.{IsOrderOf}
+use Rattle.invring_app.specs.Commands.Rings.{IsRingAnswer}
+use Rattle.invring_app.specs.OwnCertificates.{IsAcceptedText}
 use Rattle.invring_app.proofs.EndingLaws.{Shape, shape, order-one}
-use Rattle.invring_app.proofs.OwnCertificates.{images-generate}
+use Rattle.invring_app.proofs.OwnImages.{images-generate}
 use Rattle.invring_app.proofs.OwnDegrees.{degree-in}
-use Rattle.invring_app.proofs.OwnReadableKept.{IsOwn}
+use Rattle.invring_app.proofs.OwnKept.{IsOwn, own-kept}
 use Rattle.invring_app.proofs.RingCertificates.{generators-nonsingular}
 
 -- the cells of the generators of a problem
@@ -89,3 +91,8 @@ module _ (q : Problem) (l : Limits) (c : CertificateOf ℕ) (k : FieldOn ℕ) (m
 
 pub own-passes : (bytes : List ℕ) (q : Problem) (l : Limits) (c : CertificateOf ℕ) (k : FieldOn ℕ) (ms : List (Matrix ℕ)) → IsOwn q l c k ms → IsProblemText bytes q → IsAccepted c l
 own-passes bytes q l c k ms w is = accepted q l c k ms w bytes is
+
+pub own-accepted : (l : Limits) (q : Problem) (bytes text : List ℕ) → IsProblemText bytes q → IsRingAnswer l q text → IsAcceptedText l text
+own-accepted l q bytes text is a =
+    let own = own-kept l q text a in
+    record { certificate = a.certificate; is_text = a.is_text; accepted = own-passes bytes q l a.certificate a.of_problem.field own.0 own.1 is }
